@@ -10,3 +10,4 @@ pub mod Trip
 pub mod Search
 pub mod PullAnswer
 pub mod Sheet
+pub mod Cases

@@ -1,4 +1,4 @@
--- Pull-outs, clause by clause. Document 01, "An admissible walk", the paragraph on pull-outs.
+-- Pull-outs, clause by clause.
 -- Assumes nothing.
 use mathlib.Core.Bool.{Bool, true, not}
 use mathlib.Core.List.{List, [], _∷_, List·Memᴰ}
@@ -9,40 +9,41 @@ use Rattle.rules.specs.Ranges.{Distinct}
 use Rattle.rules.specs.Plan.{Plan, section-count, len, is-free, touches, far, free-from, forbidden}
 use Rattle.rules.specs.Net.{NotAfter}
 
--- all of a list but its last entry
+-- [An admissible walk, pull-out] all of a list but its last entry
 abbrev pub all-but-last : List ℕ → List ℕ
 all-but-last [] = []
 all-but-last (q ∷ []) = []
 all-but-last (q ∷ r ∷ qs) = q ∷ all-but-last (r ∷ qs)
 
 module _ (y : Plan) where
-  -- the first section is entered at p, each next one at the far end of the one before
+  -- [An admissible walk, pull-out] the first section is entered at p, each next one at the far end of the one before
   pub data Chain : ℕ → List ℕ → Type 0 where
     chain-end : {p : ℕ} → Chain p []
     chain : {p q : ℕ} {qs : List ℕ} → q < section-count y → T (touches y q p) → Chain (far y q p) qs → Chain p (q ∷ qs)
 
-  -- the points at which they are entered: p and the points passed between sections
+  -- [An admissible walk, pull-out] the points at which they are entered: p and the points passed between sections
   abbrev pub entries : ℕ → List ℕ → List ℕ
   entries p [] = []
   entries p (q ∷ qs) = p ∷ entries (far y q p) qs
 
-  -- no turn is forbidden, that from section c into the first one included
+  -- [An admissible walk, pull-out] no turn is forbidden, that from section c into the first one included
   pub data Turns : ℕ → List ℕ → Type 0 where
     turns-end : {c : ℕ} → Turns c []
     turns : {c q : ℕ} {qs : List ℕ} → T (not (forbidden y c q)) → Turns q qs → Turns c (q ∷ qs)
 
-  -- the sum of the lengths of sections
+  -- [An admissible walk, pull-out] the sum of the lengths of sections
   abbrev pub lengths : List ℕ → ℕ
   lengths [] = 0
   lengths (q ∷ qs) = len y q + lengths qs
 
-  -- the last section's free length from its entry
+  -- [An admissible walk, pull-out] the last section's free length from its entry
   abbrev pub last-free : ℕ → List ℕ → ℕ
   last-free p [] = 0
   last-free p (q ∷ []) = free-from y q p
   last-free p (q ∷ r ∷ qs) = last-free (far y q p) (r ∷ qs)
 
--- the list is a pull-out for (c, p, s) that takes the length need, over sections that pass the test may-pull
+-- [An admissible walk, pull-out] the list is a pull-out for (c, p, s) that takes the length need, over sections that pass the test
+-- may-pull: a field for each clause
 pub record PullOut (y : Plan) (may-pull : ℕ → Bool) (need c p s : ℕ) (qs : List ℕ) : Type 0 where
   pub one-or-more : 0 < length qs
   pub chained : Chain y p qs
@@ -56,15 +57,15 @@ pub record PullOut (y : Plan) (may-pull : ℕ → Bool) (need c p s : ℕ) (qs :
   pub enough : need ≤ lengths y (all-but-last qs) + last-free y p qs
   pub usable : (q : ℕ) → List·Memᴰ q qs → T (may-pull q)
 
--- document 01 lets a pull-out use every section, the start and the finish section too
+-- [An admissible walk, pull-out] document 01 lets a pull-out use every section, the start and the finish section too
 abbrev pub any-section : ℕ → Bool
 any-section s = true
 
--- of the pull-outs for (c, p, s), the one whose list is smallest
+-- [An admissible walk] of the pull-outs for (c, p, s), the one whose list is smallest
 pub record FirstPullOut (y : Plan) (may-pull : ℕ → Bool) (need c p s : ℕ) (qs : List ℕ) : Type 0 where
   pub pull-out : PullOut y may-pull need c p s qs
   pub first : (rs : List ℕ) → PullOut y may-pull need c p s rs → NotAfter qs rs
 
--- there is none
+-- [Refusal 16] there is none
 abbrev pub NoPullOut : Plan → (ℕ → Bool) → ℕ → ℕ → ℕ → ℕ → Type 0
 NoPullOut y may-pull need c p s = (qs : List ℕ) → PullOut y may-pull need c p s qs → ⊥

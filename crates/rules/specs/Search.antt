@@ -1,4 +1,4 @@
--- What the search answers, and what both lent buffers hold afterwards: numbers 1 to 14. Document 01, "Refusal numbers".
+-- What the search answers, and what both lent buffers hold afterwards: numbers 1 to 14.
 -- Assumes nothing.
 use mathlib.Core.Path.{_≡_}
 use mathlib.Core.Logic.{_≢_}
@@ -12,7 +12,7 @@ use Rattle.rules.specs.Query.{Query, start-arrival, query-checks}
 use Rattle.rules.specs.Net.{no-distance, FirstShortest, NoWalk, Remaining}
 use Rattle.rules.specs.Trip.{query-net, total, walk-reversals}
 
--- the five numbers of an answer; refusal 0 is success
+-- [Refusal numbers] the five numbers of an answer; refusal 0 is success
 pub record Numbers : Type 0 where
   pub refusal : ℕ
   pub place : ℕ
@@ -20,30 +20,30 @@ pub record Numbers : Type 0 where
   pub reversals : ℕ
   pub steps : ℕ
 
--- with a refusal every number but its own and the place is 0
+-- [Refusal numbers] with a refusal every number but its own and the place is 0
 abbrev pub refusal : Verdict → Numbers
 refusal v = record { refusal = v .number; place = v .place; total = 0; reversals = 0; steps = 0 }
 
--- the total, the reversals and the steps of a walk
+-- [Refusal numbers] the total, the reversals and the steps of a walk
 abbrev pub success : Query → List ℕ → Numbers
 success q bs = record { refusal = 0; place = 0; total = total q bs; reversals = walk-reversals q bs; steps = length bs }
 
--- an answer, and the two buffers at exit
+-- [Refusal numbers] an answer, and the two buffers at exit
 pub record Result : Type 0 where
   pub numbers : Numbers
   pub route : List ℕ
   pub labels : List ℕ
 
--- one label for each arrival, and each is the remaining distance of its arrival
+-- [Refusal numbers] one label for each arrival, and each is the remaining distance of its arrival
 pub record Labelled (q : Query) (ls : List ℕ) : Type 0 where
   pub long : length ls ≡ arrivals (q .plan)
   pub right : (a : ℕ) → a < arrivals (q .plan) → Remaining (query-net q) a (getD ls a no-distance)
 
--- 13 and 14, once the walk is known: over 2,048 steps, or more than the route buffer holds
+-- [Refusals 13 and 14] once the walk is known: over 2,048 steps, or more than the route buffer holds
 abbrev pub walk-checks : List ℕ → List ℕ → List Check
 walk-checks route bs = once 13 (ltb 2048 (length bs)) ∷ once 14 (ltb (length route) (length bs)) ∷ []
 
--- what may be answered to the query q where route and labels are the buffers at entry
+-- [Refusal numbers] what may be answered to the query q where route and labels are the buffers at entry
 pub data Answer (q : Query) (route labels : List ℕ) (r : Result) : Type 0 where
   -- 1 to 11 write nothing
   refused : (v : Verdict) → verdict (query-checks q (length labels)) ≡ v → v .number ≢ 0
