@@ -2,3 +2,4 @@ pub mod Tests
 pub mod Ranges
 pub mod Verdicts
 pub mod Pigeon
+pub mod Walks
