@@ -3,3 +3,4 @@ pub mod Ranges
 pub mod Verdicts
 pub mod Pigeon
 pub mod Walks
+pub mod Simple
