@@ -4,3 +4,4 @@ pub mod Verdicts
 pub mod Pigeon
 pub mod Walks
 pub mod Simple
+pub mod First

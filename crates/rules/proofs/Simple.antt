@@ -12,14 +12,15 @@ use Rattle.rules.specs.Net.{no-distance, Net, Walk, here, onward, costs,
 use Rattle.rules.proofs.Pigeon.{Below, pigeonhole}
 use Rattle.rules.proofs.Walks.{Bounded, shortest-tail}
 
-module _ {N : Net} {n top : ℕ} (B : Bounded N n top) where
-  record Shorter (c d : ℕ) : Type 0 where
-    rest : List ℕ
-    walk : Walk N c rest
-    less : distance N c rest < d
+-- a walk from c that is shorter than d
+record Shorter (N : Net) (c d : ℕ) : Type 0 where
+  rest : List ℕ
+  walk : Walk N c rest
+  less : distance N c rest < d
 
+module _ {N : Net} {n top : ℕ} (B : Bounded N n top) where
   -- from an arrival that a walk meets, a shorter walk leads on: what is left of it there
-  shorter : {a c : ℕ} {bs : List ℕ} → Walk N a bs → List·Memᴰ c bs → Shorter c (distance N a bs)
+  shorter : {a c : ℕ} {bs : List ℕ} → Walk N a bs → List·Memᴰ c bs → Shorter N c (distance N a bs)
   shorter (onward {bs = bs} s w) (List·Memᴰ·head e) = let p = B .positive s in record { rest = bs; walk = rw e w; less = rw e (omega arith) }
   shorter (onward s w) (List·Memᴰ·tail m) = let l = shorter w m in record { rest = l .rest; walk = l .walk; less = let h = l .less in omega arith }
 
