@@ -10,7 +10,7 @@ use native.Mathlib.Nat.{eq-or-lt-of-le, lt-trans}
 use native.Mathlib.Omega.{arith}
 use native.Mathlib.Decide.{decLt}
 use Rattle.rules.specs.Plan.{sec}
-use Rattle.rules.specs.Net.{no-distance, Net, Walk, here, onward, costs, distance, Shortest, NotAfter, over, lower, level, FirstShortest, Remaining, no-walk, by-walk, AtMost, above-all, within, KeepsRules}
+use Rattle.rules.specs.Net.{no-distance, Net, Walk, here, onward, distance, Shortest, NotAfter, over, lower, level, FirstShortest, Remaining, no-walk, by-walk, AtMost, above-all, within, KeepsRules}
 use Rattle.rules.proofs.Walks.{Bounded, shortest-tail, lower-bound, matched-shortest, remaining-unique, remaining-finish}
 
 -- two lists of which neither comes after the other are equal

@@ -5,3 +5,4 @@ pub mod Pigeon
 pub mod Walks
 pub mod Simple
 pub mod First
+pub mod Sound

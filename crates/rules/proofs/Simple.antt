@@ -1,14 +1,13 @@
 -- A shortest walk meets no arrival twice (`simple`), so over n arrivals it has fewer than n steps (`few-steps`), and its distance is
 -- far below "none" (`far-below`).
 -- Assumes nothing.
-use mathlib.Core.Path.{_≡_}
 use mathlib.Core.List.{List, [], _∷_, List·Memᴰ, List·Memᴰ·head, List·Memᴰ·tail}
 use Prim.Native.Nat.{ℕ, _+_, _*_, _≤_, _<_}
 use native.Mathlib.Nat.{suc-mul, mul-le-mul}
 use native.Mathlib.Omega.{arith}
 use lib.ListN.{length}
 use Rattle.rules.specs.Ranges.{Distinct, nil, cons}
-use Rattle.rules.specs.Net.{no-distance, Net, Walk, here, onward, costs, distance, Shortest}
+use Rattle.rules.specs.Net.{no-distance, Net, Walk, here, onward, distance, Shortest}
 use Rattle.rules.proofs.Pigeon.{Below, pigeonhole}
 use Rattle.rules.proofs.Walks.{Bounded, shortest-tail}
 

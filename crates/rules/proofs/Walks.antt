@@ -3,12 +3,12 @@
 -- Remaining distances keep the rules (`remaining-keeps`) and are determined (`remaining-unique`). Labels that keep the rules and are
 -- each attained, by a step or by a whole walk, are the remaining distances (`attained-remaining`, `walked-remaining`).
 -- Assumes nothing.
-use mathlib.Core.Path.{_≡_, refl}
+use mathlib.Core.Path.{_≡_}
 use mathlib.Core.List.{List, [], _∷_}
 use Prim.Native.Nat.{ℕ, zero, suc, _+_, _≤_, _<_}
 use native.Mathlib.Omega.{arith}
 use Rattle.rules.specs.Plan.{sec}
-use Rattle.rules.specs.Net.{no-distance, Net, Walk, here, onward, costs, distance, Shortest, NoWalk, Remaining, no-walk, by-walk, AtMost, above-all, within, KeepsRules}
+use Rattle.rules.specs.Net.{no-distance, Net, Walk, here, onward, distance, Shortest, NoWalk, Remaining, no-walk, by-walk, AtMost, above-all, within, KeepsRules}
 
 -- a net of n arrivals with costs from 1 to top
 pub record Bounded (N : Net) (n top : ℕ) : Type 0 where
