@@ -6,3 +6,4 @@ pub mod Walks
 pub mod Simple
 pub mod First
 pub mod Sound
+pub mod Trips
