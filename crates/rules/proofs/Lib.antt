@@ -7,3 +7,4 @@ pub mod Simple
 pub mod First
 pub mod Sound
 pub mod Trips
+pub mod SearchAnswers
