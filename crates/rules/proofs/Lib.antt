@@ -8,3 +8,4 @@ pub mod First
 pub mod Sound
 pub mod Trips
 pub mod SearchAnswers
+pub mod PullAnswers
