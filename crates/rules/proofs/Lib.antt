@@ -9,3 +9,4 @@ pub mod Sound
 pub mod Trips
 pub mod SearchAnswers
 pub mod PullAnswers
+pub mod SheetAnswers
