@@ -11,7 +11,7 @@ use native.Mathlib.Omega.{arith}
 use native.Mathlib.Decide.{decLt}
 use Rattle.rules.specs.Plan.{sec}
 use Rattle.rules.specs.Net.{no-distance, Net, Walk, here, onward, distance, Shortest, NotAfter, over, lower, level, FirstShortest, Remaining, no-walk, by-walk, AtMost, above-all, within, KeepsRules}
-use Rattle.rules.proofs.Walks.{Bounded, shortest-tail, lower-bound, matched-shortest, remaining-unique, remaining-finish}
+use Rattle.rules.proofs.Walks.{Bounded, Tight, shortest-tail, lower-bound, matched-shortest, remaining-unique, remaining-finish}
 
 -- two lists of which neither comes after the other are equal
 pub not-after-antisym : {xs ys : List ℕ} → NotAfter xs ys → NotAfter ys xs → xs ≡ ys
@@ -42,23 +42,26 @@ not-after-total (x ∷ xs) (y ∷ ys) = go (decLt x y) (decLt y x) (not-after-to
     go (no h) (yes d) r = inr (lower d)
     go (no h) (no d) r = rest (omega arith) r
 
--- bs follows, from a, the step of the smallest section among those that are tight: the label before is the cost and the label after
+-- no tight step from a goes over a smaller section than that of b
+abbrev pub Smallest : Net → (ℕ → ℕ) → ℕ → ℕ → Type 0
+Smallest N label a b = (c : ℕ) → N .Step a c → Tight N label a c → sec b ≤ sec c
+
+-- bs follows, from a, the tight step of the smallest section, again and again, to an end
 pub data Follow (N : Net) (label : ℕ → ℕ) : ℕ → List ℕ → Type 0 where
   stop : {a : ℕ} → N .Finish a → Follow N label a []
-  go-on : {a b : ℕ} {bs : List ℕ} → N .Step a b → label a ≡ N .cost a b + label b
-      → ((c : ℕ) → N .Step a c → label a ≡ N .cost a c + label c → sec b ≤ sec c) → Follow N label b bs → Follow N label a (b ∷ bs)
+  go-on : {a b : ℕ} {bs : List ℕ} → N .Step a b → Tight N label a b → Smallest N label a b → Follow N label b bs → Follow N label a (b ∷ bs)
 
--- of the tight steps from a, one of the smallest section
+-- a tight step of the smallest section
 pub record Pick (N : Net) (label : ℕ → ℕ) (a : ℕ) : Type 0 where
   pub to : ℕ
   pub step : N .Step a to
-  pub tight : label a ≡ N .cost a to + label to
-  pub least : (c : ℕ) → N .Step a c → label a ≡ N .cost a c + label c → sec to ≤ sec c
+  pub tight : Tight N label a to
+  pub smallest : Smallest N label a to
 
 -- an end at a, or a tight step from there
 pub data LeadsOn (N : Net) (label : ℕ → ℕ) (a : ℕ) : Type 0 where
   ends : N .Finish a → LeadsOn N label a
-  steps : (b : ℕ) → N .Step a b → label a ≡ N .cost a b + label b → LeadsOn N label a
+  steps : (b : ℕ) → N .Step a b → Tight N label a b → LeadsOn N label a
 
 -- a step of a walk as long as the label is tight, and what is left is as long as the label after it
 tight-step : {l c m d : ℕ} → AtMost l c m → m < no-distance → m ≤ d → l ≡ c + d → (l ≡ c + m) × (m ≡ d)
@@ -89,15 +92,15 @@ module _ {N : Net} {n top : ℕ} (B : Bounded N n top) {label : ℕ → ℕ} (ri
       at : (bs : List ℕ) → Shortest N a bs → label a ≡ distance N a bs → Walk N a bs → LeadsOn N label a
       at [] s e (here f) = ends f
       at (b ∷ bs) s e (onward t w) =
-          let d = remaining-unique (right b (B .to t)) (by-walk bs (shortest-tail s .1) refl) in
+          let d = remaining-unique (right b (B .to t)) (by-walk bs (shortest-tail s) refl) in
           steps b t (omega arith)
 
       go : Remaining N a (label a) → LeadsOn N label a
       go (no-walk e m) = absurd (omega arith)
       go (by-walk bs s e) = at bs s e (s .walk)
 
-  module _ (pick : (a c : ℕ) → N .Step a c → label a ≡ N .cost a c + label c → Pick N label a) where
-    -- by induction on a bound k of the label, which falls with each step
+  module _ (pick : (a c : ℕ) → N .Step a c → Tight N label a c → Pick N label a) where
+    -- where the label is a number, following gets to an end: by induction on a bound k of the label, which falls with each step
     pub reach : (k a : ℕ) → a < n → label a < k → label a < no-distance → (bs : List ℕ) × Follow N label a bs
     reach zero a i l h = absurd (omega arith)
     reach (suc k) a i l h = go (leads-on a i h) (λ b j m g. reach k b j m g)
@@ -108,7 +111,7 @@ module _ {N : Net} {n top : ℕ} (B : Bounded N n top) {label : ℕ → ℕ} (ri
             let c = B .positive (p .step) in
             let t = p .tight in
             let q = below (p .to) (B .to (p .step)) (omega arith) (omega arith) in
-            (p .to ∷ q .0, go-on (p .step) t (p .least) (q .1))
+            (p .to ∷ q .0, go-on (p .step) t (p .smallest) (q .1))
 
         go : LeadsOn N label a → ((b : ℕ) → b < n → label b < k → label b < no-distance → (bs : List ℕ) × Follow N label b bs)
             → (bs : List ℕ) × Follow N label a bs
@@ -130,11 +133,12 @@ module _ {N : Net} {n top : ℕ} (B : Bounded N n top) {label : ℕ → ℕ} (ri
         let z = tight-step (keeps a .at-step c u) (l .0) (l .1) (omega arith) in
         compare (eq-or-lt-of-le (m c u (z .0))) (z .1) (λ w q. follow-not-after k w q)
       where
-        compare : (sec b ≡ sec c) ⊎ (sec b < sec c) → label c ≡ distance N c cs → (Walk N b cs → label b ≡ distance N b cs → NotAfter (map sec bs) (map sec cs))
-            → NotAfter (map sec (b ∷ bs)) (map sec (c ∷ cs))
+        compare : (sec b ≡ sec c) ⊎ (sec b < sec c) → label c ≡ distance N c cs
+            → (Walk N b cs → label b ≡ distance N b cs → NotAfter (map sec bs) (map sec cs)) → NotAfter (map sec (b ∷ bs)) (map sec (c ∷ cs))
         compare (inr h) q below = lower h
         compare (inl h) q below = let z = B .same-step s u h in level h (below (rw z v) (rw z q))
 
+    -- no walk is shorter than its start's label, and one as long does not come before
     pub follow-first : {a : ℕ} {bs : List ℕ} → Follow N label a bs → FirstShortest N a bs
     follow-first {a} {bs} f =
         let w = follow-walk f in

@@ -1,3 +1,4 @@
+-- What follows from the definitions of document 01: laws of tests, of walks and labels, and of the answers.
 pub mod Tests
 pub mod Ranges
 pub mod Verdicts

@@ -34,7 +34,7 @@ module _ {N : Net} {n top : ℕ} (B : Bounded N n top) where
   -- nor, since what is left of it is shortest too, to any other arrival
   pub simple : {a : ℕ} (bs : List ℕ) → Shortest N a bs → Distinct (a ∷ bs)
   simple [] h = cons (no-return h) nil
-  simple (b ∷ bs) h = cons (no-return h) (simple bs (shortest-tail h .1))
+  simple (b ∷ bs) h = cons (no-return h) (simple bs (shortest-tail h))
 
   inside : {a : ℕ} {bs : List ℕ} → a < n → Walk N a bs → Below n (a ∷ bs)
   inside l w k (List·Memᴰ·head e) = rw e l

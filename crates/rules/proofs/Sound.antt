@@ -110,7 +110,7 @@ one-at-point y first t u lt lu n e = go (decLt t u) (decLt u t)
     go (no h) (no d) = n (omega arith)
 
 -- what the passed checks 1 to 6 say
-plan-passed : (y : Plan) → Passed (plan-checks y) → SoundPlan y
+pub plan-passed : (y : Plan) → Passed (plan-checks y) → SoundPlan y
 plan-passed y p =
     let one = simp tests at (p .0 0 (omega arith)) in
     record {
@@ -159,7 +159,7 @@ not-there : (q : Query) → T (not (eqb (q .start) (q .finish) && eqb (q .start-
 not-there q t e f = clash (eqb (q .start) (q .finish) && eqb (q .start-end) (q .finish-end)) (simp tests (e, f)) t
 
 -- what the passed checks 7 to 10 say of a query on a sound plan
-train-passed : (q : Query) → SoundPlan (q .plan) → Passed (train-checks q) → Sound q
+pub train-passed : (q : Query) → SoundPlan (q .plan) → Passed (train-checks q) → Sound q
 train-passed q S p =
     let seven = simp tests at (p .0 0 (omega arith)) in
     let eight = simp tests at (p .1 .0 0 (omega arith)) in

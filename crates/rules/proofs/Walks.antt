@@ -29,11 +29,11 @@ pub keeps-everywhere : {N : Net} {n top : ℕ} {label : ℕ → ℕ} → Bounded
 keeps-everywhere B k a = record { at-finish = λ f. k a (B .ending f) .at-finish f; at-step = λ b s. k a (B .from s) .at-step b s }
 
 -- the rest of a shortest walk is shortest
-pub shortest-tail : {N : Net} {a b : ℕ} {bs : List ℕ} → Shortest N a (b ∷ bs) → N .Step a b × Shortest N b bs
+pub shortest-tail : {N : Net} {a b : ℕ} {bs : List ℕ} → Shortest N a (b ∷ bs) → Shortest N b bs
 shortest-tail {N} {a} {b} {bs} h = go (h .walk) (h .least)
   where
-    go : Walk N a (b ∷ bs) → ((cs : List ℕ) → Walk N a cs → distance N a (b ∷ bs) ≤ distance N a cs) → N .Step a b × Shortest N b bs
-    go (onward s w) least = (s, record { walk = w; least = λ cs v. let l = least (b ∷ cs) (onward s v) in omega arith })
+    go : Walk N a (b ∷ bs) → ((cs : List ℕ) → Walk N a cs → distance N a (b ∷ bs) ≤ distance N a cs) → Shortest N b bs
+    go (onward s w) least = record { walk = w; least = λ cs v. let l = least (b ∷ cs) (onward s v) in omega arith }
 
 module _ {N : Net} {label : ℕ → ℕ} (small : N .room < no-distance) (keeps : (a : ℕ) → KeepsRules N label a) where
   -- by induction on the walk: at its end the label is at most the room; before a step it is at most the cost and the label after,
@@ -98,19 +98,23 @@ pub walked-remaining : {N : Net} {label : ℕ → ℕ} {a : ℕ} → N .room < n
 walked-remaining small keeps (no-label e) = no-walk e (none-no-walk small keeps e)
 walked-remaining small keeps (walked bs w e) = by-walk bs (matched-shortest small keeps w e) e
 
--- a label that is "none", or the room where a walk may end, or the cost of a step and the label after it
+-- a step from a to b is tight: the label before it is its cost and the label after it
+abbrev pub Tight : Net → (ℕ → ℕ) → ℕ → ℕ → Type 0
+Tight N label a b = label a ≡ N .cost a b + label b
+
+-- a label that is "none", or the room where a walk may end, or a number that a tight step gives
 pub data Attained (N : Net) (label : ℕ → ℕ) (a : ℕ) : Type 0 where
   unreached : label a ≡ no-distance → Attained N label a
   at-end : N .Finish a → label a ≡ N .room → Attained N label a
-  by-step : (b : ℕ) → N .Step a b → label a ≡ N .cost a b + label b → label a < no-distance → Attained N label a
+  by-step : (b : ℕ) → N .Step a b → Tight N label a b → label a < no-distance → Attained N label a
 
 module _ {N : Net} {n top : ℕ} (B : Bounded N n top) {label : ℕ → ℕ} (attained : (a : ℕ) → a < n → Attained N label a) where
-  -- following the steps by which labels are attained makes a walk, since each has a lower label after it; k bounds the label
+  -- following the tight steps makes a walk, since the label falls with each; k bounds the label
   attained-walked : (k a : ℕ) → a < n → label a < k → Walked N label a
   attained-walked zero a i l = absurd (omega arith)
   attained-walked (suc k) a i l = go (attained a i) (λ b j m. attained-walked k b j m)
     where
-      after : {b : ℕ} → N .Step a b → label a ≡ N .cost a b + label b → label a < no-distance → Walked N label b → Walked N label a
+      after : {b : ℕ} → N .Step a b → Tight N label a b → label a < no-distance → Walked N label b → Walked N label a
       after s e m (no-label q) = absurd (omega arith)
       after {b} s e m (walked bs w q) = walked (b ∷ bs) (onward s w) (omega arith)
 
@@ -119,5 +123,6 @@ module _ {N : Net} {n top : ℕ} (B : Bounded N n top) {label : ℕ → ℕ} (at
       go (at-end f e) below = walked [] (here f) (omega arith)
       go (by-step b s e m) below = let p = B .positive s in after s e m (below b (B .to s) (omega arith))
 
+  -- labels that keep the rules and are each attained are the remaining distances, since each is "none" or the distance of a walk
   pub attained-remaining : N .room < no-distance → ((a : ℕ) → KeepsRules N label a) → (a : ℕ) → a < n → Remaining N a (label a)
   attained-remaining small keeps a i = walked-remaining small keeps (attained-walked (suc (label a)) a i (omega arith))
