@@ -68,6 +68,7 @@ shares y s r o = go (touches y r (end-A y s)) refl o
     go false e (inl t) = absurd t
     go false e (inr t) = (T-or-right (eqb (end-A y s) (end-B y s)) (eqb (end-B y s) (end-B y s)) (eqb-refl (end-B y s)), t)
 
+-- what check 2 says of a section
 section-good : (y : Plan) (s : ℕ) → T (not (section-bad y s)) → SoundSection y s
 section-good y s t =
     let h = simp tests at t in
@@ -89,6 +90,7 @@ section-good y s t =
     stand (inl h) = inl h
     stand (inr h) = inr (simp tests at h)
 
+-- what check 5 says of a turn
 turn-good : (y : Plan) (t : ℕ) → T (not (turn-bad y t)) → SoundTurn y t
 turn-good y t n =
     let h = simp tests at n in
@@ -147,6 +149,7 @@ pub record Sound (q : Query) : Type 0 where
   pub room : (q .train ≤ finish-room q) × (finish-room q ≤ 200000)
   pub first : first-distance q ≤ 200000
 
+-- the finish room is the finish section's length or a free length of it
 room-small : (q : Query) → SoundSection (q .plan) (q .finish) → q .finish-end ≤ 1 → finish-room q ≤ 200000
 room-small q S l = go (eqb (q .start) (q .finish) && alone q) (free-fits S (q .finish-end) l)
   where
@@ -181,15 +184,17 @@ train-passed q S p =
     }
 
 module _ (q : Query) (n : ℕ) (e : verdict (query-checks q n) ≡ passed) where
+  -- 1 to 6, 7 to 10, and 11
   parts : Passed (plan-checks (q .plan)) × (Passed (train-checks q) × Passed (once 11 (not (eqb n (arrivals (q .plan)))) ∷ []))
   parts =
       let last = once 11 (not (eqb n (arrivals (q .plan)))) ∷ [] in
       let p = passes-both (plan-checks (q .plan)) (train-checks q ++ last) (passes (query-checks q n) tt e) in
       (p .0, passes-both (train-checks q) last (p .1))
 
-  -- what the passed checks 1 to 11 say
+  -- checks 1 to 10
   pub sound : Sound q
   sound = train-passed q (plan-passed (q .plan) (parts .0)) (parts .1 .0)
 
+  -- check 11
   pub label-length : n ≡ arrivals (q .plan)
   label-length = simp tests at (parts .1 .1 .0 0 (omega arith))

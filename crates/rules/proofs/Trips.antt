@@ -24,6 +24,7 @@ pub record SoundTrip (t : Trip) : Type 0 where
   pub need : t .need ≤ 20000
   pub room : t .room ≤ 200000
 
+-- the trip of a query that passed its checks
 pub sound-trip : {q : Query} → Sound q → SoundTrip (trip-of q)
 sound-trip S = record {
   few-sections = S .plan .few-sections .1;
@@ -42,6 +43,7 @@ same-end y s e f u v n =
     e
     u
 
+-- a cost is a section's length, or a train's before it
 cost-range : (b : Bool) (x l : ℕ) → x ≤ 20000 → 1 ≤ l → l ≤ 200000 → (1 ≤ cond b x 0 + l) × (cond b x 0 + l ≤ 220000)
 cost-range true x l u v w = omega arith
 cost-range false x l u v w = omega arith
@@ -59,6 +61,7 @@ module _ {t : Trip} (S : SoundTrip t) where
       let z = same-end (t .plan) (sec c) (1 - b % 2) (1 - c % 2) (omega arith) (omega arith) d (rw e at (s .joined) ∙ sym (u .joined)) in
       omega arith
 
+  -- so the laws of walks hold of a trip
   pub bounded : Bounded (net-of t) (arrivals (t .plan)) 220000
   bounded = record {
     positive = λ s. step-cost s .0;
@@ -83,8 +86,10 @@ module _ {q : Query} (S : Sound q) where
   pub query-bounded : Bounded (query-net q) (arrivals (q .plan)) 220000
   query-bounded = bounded (sound-trip S)
 
+  -- its arrivals with the start are different, and there are 2E of them
   pub query-few-steps : (bs : List ℕ) → Shortest (query-net q) (start-arrival q) bs → length bs < 2048
   query-few-steps bs h = omega (arith, few-steps query-bounded bs start-inside h, S .plan .few-sections)
 
+  -- and so its total is a number of 32 bits that is not "none"
   pub total-below : (bs : List ℕ) → Shortest (query-net q) (start-arrival q) bs → total q bs < no-distance
   total-below bs h = omega (arith, distance-below (sound-trip S) (start-arrival q) bs start-inside h, S .first)
