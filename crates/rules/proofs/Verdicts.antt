@@ -6,19 +6,24 @@ use mathlib.Core.Bool.{Bool, true, false, not, _&&_}
 use mathlib.Core.List.{List, [], _∷_, _++_}
 use Prim.Native.Nat.{ℕ, _≤_, _<_}
 use native.Mathlib.Omega.{arith}
-use lib.Dec.{T, ltb, ltb→lt, nltb→le}
+use lib.Dec.{T, leb, leb→le, ltb, ltb→lt, nltb→le}
 use Rattle.rules.specs.Ranges.{first-of}
 use Rattle.rules.specs.Refusals.{Verdict, Check, refused-at, passed, once, each, verdict}
 use Rattle.rules.proofs.Tests.{and-T, clash}
 use Rattle.rules.proofs.Ranges.{Least, hit, past, least, first-is, first-past}
 
-abbrev number-of : Verdict → ℕ
+abbrev pub number-of : Verdict → ℕ
 number-of v = v .number
 
 -- no check has the number 0
 abbrev pub numbered : List Check → Bool
 numbered [] = true
 numbered (c ∷ cs) = ltb 0 (c .number) && numbered cs
+
+-- no check has a number above m
+abbrev pub numbers-to : ℕ → List Check → Bool
+numbers-to m [] = true
+numbers-to m (c ∷ cs) = leb (c .number) m && numbers-to m cs
 
 -- no check applies anywhere
 abbrev pub Passed : List Check → Type 0
@@ -71,6 +76,21 @@ passes (c ∷ cs) n e = go (ltb k (c .places)) refl e (λ q. passes cs (and-T (l
 pub accepts : (cs : List Check) → Passed cs → verdict cs ≡ passed
 accepts [] p = refl
 accepts (c ∷ cs) p = goes-on c cs (c .places) (sym (first-past (c .bad) (c .places) (p .0))) (omega arith) ∙ accepts cs (p .1)
+
+-- a verdict's number is that of a check, or 0
+pub number-at-most : (m : ℕ) (cs : List Check) → T (numbers-to m cs) → verdict cs .number ≤ m
+number-at-most m [] t = omega arith
+number-at-most m (c ∷ cs) t = go (ltb k (c .places)) (number-at-most m cs (h .1))
+  where
+    k : ℕ
+    k = first-of (c .bad) 0 (c .places)
+
+    h : T (leb (c .number) m) × T (numbers-to m cs)
+    h = and-T (leb (c .number) m) (numbers-to m cs) t
+
+    go : (b : Bool) → verdict cs .number ≤ m → number-of (elim b [ true ↦ refused-at (c .number) k | false ↦ verdict cs ]) ≤ m
+    go true below = leb→le (c .number) m (h .0)
+    go false below = below
 
 -- two lists of checks, one after the other
 pub passes-both : (cs ds : List Check) → Passed (cs ++ ds) → Passed cs × Passed ds
