@@ -1,4 +1,165 @@
--- Document 01 as definitions.
+-- Document 01 as definitions: what a reader has to believe. Nothing here depends on how the code works; laws and proofs stand in
+-- proofs/. Each module with its definitions, one line each; in the modules a comment names the heading of document 01 to which
+-- its definition belongs.
+--
+-- Ranges: Tests over a range of numbers, and lists without repetition: the vocabulary in which the rules count, look and compare.
+--   between           low ≤ n ≤ high
+--   every             the test holds at each of the m numbers from i on
+--   some-of           the test holds at one of the m numbers from i on
+--   first-of          the lowest of the m numbers from i on at which the test holds, or i + m
+--   count-of          at how many of the m numbers from i on the test holds
+--   Distinct          no number occurs twice in the list
+--
+-- Plan: The track plan: its three parts, and the numbers of a section, of a turn and of an arrival.
+--   Plan              how many points there are (they are numbered from 0), the table of sections and the table of forbidden turns
+--   plan-of           a plan from the three arguments by which the library's functions take it
+--   of-sections       a plan of which nothing but the table of sections is read
+--   width             how many numbers a section has in its table
+--   section-count     how many sections the table holds
+--   turn-count        how many forbidden turns the table holds
+--   field             number k of section s
+--   end-A             the first of the six numbers: the point at end A
+--   end-B             the point at end B
+--   len               the length
+--   kind              the kind
+--   free-A            the free length from end A
+--   free-B            the free length from end B
+--   end-at            the point at an end that is given by its number, 0 for A and 1 for B
+--   free-at           the free length from the end with that number
+--   connecting        kind 0
+--   destination       kind 1
+--   is-free           nothing stands on the section: the free length from either end is its whole length
+--   is-locked         a locked section: no free length at either end
+--   touches           the point p is an end of section s
+--   far               the other end of a section that is entered at its end p
+--   free-from         the free length of a section from its entry p
+--   same-ends         sections s and r join the same two points
+--   turn-section      the two sections of forbidden turn t (k is 0 or 1)
+--   shared-point      a point that sections s and r share, where they share one
+--   turn-point        the point of forbidden turn t
+--   forbidden         the turn from section c to section s is forbidden; a turn holds both ways
+--   arrivals          how many arrivals there are: 2s comes over section s to its end A, 2s + 1 to its end B
+--   to-point          the point to which an arrival comes
+--   from-point        the point at the other end of its section, where a step to this arrival begins
+--   sec               the section of an arrival
+--
+-- Refusals: A refusal: its number, its place, and which one is given where several apply.
+--   Verdict           a refusal's number and place; the number 0 stands for "not refused"
+--   refused-at        refused with number n at place p
+--   passed            not refused
+--   Check             one row of the list of refusals: its number, how many places it is tested at, and where it applies
+--   once              a refusal whose place is always 0
+--   each              a refusal that is tested at each of m places
+--   verdict           the first row that applies anywhere, at the lowest place where it does
+--
+-- PlanCheck: Which plans are refused: numbers 1 to 6.
+--   tables-good       the counts are in range, and each table is made of whole rows
+--   ground-good       what does not move: two different ends that are points, a length in range, one of the two kinds
+--   stock-good        what stands there: the section is free, or its two free lengths leave some of it over
+--   section-bad       the section breaks its own rule, which is these two together
+--   doubled           an earlier section joins the same two points
+--   degree            how many sections have point p for an end
+--   degree-bad        the point has no section or over three
+--   turn-bad          not two different connecting sections that share a point
+--   second-turn       an earlier turn has the same point
+--   plan-checks       1 to 6 in their order, 2 and 3 at sections, 4 at points, 5 and 6 at turns
+--
+-- Query: One train with its start and its finish, and which of these are refused: numbers 7 to 11.
+--   Query             the plan, the train's length, the section and the end by which it leaves, the section and the end by which it enters (0 = A, 1 = B)
+--   query-of          a query from a plan and the five numbers by which the library's functions take it
+--   start-arrival     the arrival on the start section at the start end
+--   first-distance    the distance with which every walk begins: the free length of the start section from the start end
+--   taken             what the train and the two free lengths of its section take together
+--   stands            at least a train's length of stock stands on the start section
+--   alone             stock stands there, and it is the train and nothing else
+--   finish-room       the free length at the finish end; on the start section the whole length where the train is alone
+--   destination-end   a section of the plan that is a destination, and one of its ends
+--   train-good        the train's length is in range
+--   start-good        the train stands on a destination section and leaves by one of its ends
+--   finish-good       the train enters a destination section by one of its ends, and not where it started
+--   room-good         the finish room is at least the train's length
+--   train-checks      7 to 10 in their order
+--   query-checks      1 to 11, what search and sheet check have in common; n is the length of the label buffer
+--
+-- Net: Walks over any step relation with costs: shortest, first by section numbers, remaining distance, label rules.
+--   no-distance       the number that stands for "none"
+--   Net               the steps between arrivals, what each costs, the arrivals at which a walk may end, and the finish room
+--   Walk              the list of arrivals is a walk from the arrival a: step by step, to an arrival at which it may end; no steps at all is one too
+--   costs             the costs of the steps of a list
+--   distance          the sum of costs and finish room
+--   Shortest          no walk from a is shorter
+--   NotAfter          compared number by number from the front, the first list does not come after the second
+--   FirstShortest     of the shortest walks from a, the one whose list of sections is smallest
+--   NoWalk            no walk leads on from a
+--   Remaining         v is the remaining distance of a: the least sum of costs and finish room from it, or "none"
+--   AtMost            the label l is at most the cost c plus the label m, where "none" is above all numbers
+--   KeepsRules        the two label rules at the arrival a
+--
+-- PullOut: Pull-outs, clause by clause.
+--   all-but-last      all of a list but its last entry
+--   Chain             the first section is entered at p, each next one at the far end of the one before
+--   entries           the points at which they are entered: p and the points passed between sections
+--   Turns             no turn is forbidden, that from section c into the first one included
+--   lengths           the sum of the lengths of sections
+--   last-free         the last section's free length from its entry
+--   PullOut           the list is a pull-out for (c, p, s) that takes the length need, over sections that pass the test may-pull: a field for each clause
+--   any-section       document 01 lets a pull-out use every section, the start and the finish section too
+--   FirstPullOut      of the pull-outs for (c, p, s), the one whose list is smallest
+--   NoPullOut         there is no pull-out for (c, p, s)
+--
+-- Trip: Admissible steps and walks of one train.
+--   Trip              the tables, the length that a pull-out has to take and a reversal costs, the sections that a step may enter, those that a pull-out may use, the point and the section at which a walk ends, and the room there
+--   reverses          the turn of a step from arrival a to arrival b is forbidden: the step is a reversal, and else it runs on
+--   Step              a step leaves the point of arrival a over another section, which may be entered, to that section's far end; a reversal asks for a pull-out
+--   cost              what a step costs: the section's length, and for a reversal the train's length before it
+--   Finish            a walk may end at an arrival at the finish point over a section other than the finish section
+--   net-of            the steps, their costs, the ends and the room of a trip
+--   reversals         how many steps of a list are reversals
+--   trip-of           what a query means: a step may enter a free section that is neither the finish nor the start section, which counts as occupied
+--   query-net         the steps of a query's train
+--   total             a walk's total: first distance, costs and finish room
+--   walk-reversals    a walk's number of reversals
+--
+-- Search: What the search answers, and what both lent buffers hold afterwards: numbers 1 to 14.
+--   Numbers           the five numbers of an answer; refusal 0 is success
+--   refusal           with a refusal every number but its own and the place is 0
+--   success           the total, the reversals and the steps of a walk
+--   Result            an answer, and the two buffers at exit
+--   Labelled          one label for each arrival, and each is the remaining distance of its arrival
+--   walk-checks       once the walk is known: over 2,048 steps, or more than the route buffer holds
+--   Answer            what may be answered to the query q where route and labels are the buffers at entry
+--
+-- PullAnswer: What the call for one pull-out answers, and what the lent list holds afterwards: numbers 1 to 7, 15, 16, 14.
+--   Reversal          what is asked: the plan, the train's length, the arrival and the section
+--   reversal-of       what is asked, from a plan and the three numbers by which the library's function takes it
+--   turn-asked        an arrival and a section of the plan, with a forbidden turn between them at the arrival's point
+--   pull-checks       1 to 7 and 15 in their order
+--   Pulls             the list is the first pull-out for it, the tables taken as they stand
+--   PullsNone         no pull-out for it exists
+--   Pulled            an answer, and the lent list at exit
+--   not-pulled        a refusal writes nothing
+--   PullAnswer        what may be answered where list is the lent list at entry
+--
+-- Sheet: Sheets: a claim, a list of arrivals and labels, and what their checker answers: numbers 1 to 11, 17, 18, 19.
+--   Sheet             the claim (0 no route, 1 walk), the list of arrivals as the search writes them, and the labels
+--   sheet-of          a sheet from the three arguments by which the library's function takes it
+--   label-of          the label of an arrival
+--   Claims            what is not refused: no route and no list, or a walk and a list that is an admissible one
+--   RulesAt           what is not refused: the label rules hold at the arrival a
+--   StartLabel        what is not refused: the start label is "none" for no route, and for a walk it is what is left of the total after the first distance
+--   Accepted          the numbers of an accepted sheet: those of the walk, or zeros
+--   SheetAnswer       what may be answered to the sheet h of the query q; the checker writes nothing
+--
+-- Cases: The small yards of document 01 with their answers: the table of the cases that are proved.
+--   yard-Y            yard Y; what stands on sections 0 and 4 differs from case to case
+--   plain-Y           yard Y with sections 0 and 4 free
+--   from-3            a train that leaves section 3 by its end A, as all of yard Y's do
+--   three-points      the yard of three points, and its query
+--   loop              the loop, asked for the pull-out of arrival 2 and section 2
+--   Case              one case: a query and its refusal by 1 to 11; no route; a walk; a sheet; a pull-out and none
+--   Right             what a case says: the answer, whatever the lent buffers hold, where they are large enough
+--   labels-Y          labels of yard Y, of which those of arrivals 2 and 6 differ from sheet to sheet
+--   cases             the cases that are marked (P)
 pub mod Ranges
 pub mod Plan
 pub mod Refusals

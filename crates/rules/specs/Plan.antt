@@ -39,7 +39,7 @@ module _ (y : Plan) where
   abbrev pub field : ℕ → ℕ → ℕ
   field s k = getD (y .sections) (width * s + k) 0
 
-  -- [The plan] the six numbers in their order: the point at end A
+  -- [The plan] the first of the six numbers: the point at end A
   abbrev pub end-A : ℕ → ℕ
   end-A s = field s 0
 

@@ -26,7 +26,7 @@ module _ (y : Plan) where
   abbrev pub stock-good : ℕ → Bool
   stock-good s = is-free y s || ltb (free-A y s + free-B y s) (len y s)
 
-  -- [Refusal 2] a section's own rule is these two together
+  -- [Refusal 2] the section breaks its own rule, which is these two together
   abbrev pub section-bad : ℕ → Bool
   section-bad s = not (ground-good s && stock-good s)
 
@@ -38,7 +38,7 @@ module _ (y : Plan) where
   abbrev pub degree : ℕ → ℕ
   degree p = count-of (λ s. touches y s p) 0 (section-count y)
 
-  -- [The plan; refusal 4] that is none or over three
+  -- [The plan; refusal 4] the point has no section or over three
   abbrev pub degree-bad : ℕ → Bool
   degree-bad p = not (between 1 (degree p) 3)
 

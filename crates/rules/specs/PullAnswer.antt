@@ -20,7 +20,7 @@ pub record Reversal : Type 0 where
   pub arrival : ℕ
   pub section : ℕ
 
--- [Refusal 15] it from a plan and the three numbers by which the library's function takes it
+-- [Refusal 15] what is asked, from a plan and the three numbers by which the library's function takes it
 abbrev pub reversal-of : Plan → ℕ → ℕ → ℕ → Reversal
 reversal-of y l a s = record { plan = y; train = l; arrival = a; section = s }
 
@@ -39,7 +39,7 @@ module _ (v : Reversal) where
   abbrev pub Pulls : List ℕ → Type 0
   Pulls qs = FirstPullOut (v .plan) any-section (v .train) (sec (v .arrival)) (to-point (v .plan) (v .arrival)) (v .section) qs
 
-  -- [Refusal 16] there is none
+  -- [Refusal 16] no pull-out for it exists
   abbrev pub PullsNone : Type 0
   PullsNone = NoPullOut (v .plan) any-section (v .train) (sec (v .arrival)) (to-point (v .plan) (v .arrival)) (v .section)
 

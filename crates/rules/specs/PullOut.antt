@@ -66,6 +66,6 @@ pub record FirstPullOut (y : Plan) (may-pull : ℕ → Bool) (need c p s : ℕ) 
   pub pull-out : PullOut y may-pull need c p s qs
   pub first : (rs : List ℕ) → PullOut y may-pull need c p s rs → NotAfter qs rs
 
--- [Refusal 16] there is none
+-- [Refusal 16] there is no pull-out for (c, p, s)
 abbrev pub NoPullOut : Plan → (ℕ → Bool) → ℕ → ℕ → ℕ → ℕ → Type 0
 NoPullOut y may-pull need c p s = (qs : List ℕ) → PullOut y may-pull need c p s qs → ⊥

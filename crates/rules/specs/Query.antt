@@ -39,9 +39,9 @@ module _ (q : Query) where
   abbrev pub stands : Bool
   stands = leb taken (len (q .plan) (q .start))
 
-  -- [Train, start, finish] nothing else stands there
+  -- [Train, start, finish] stock stands there, and it is the train and nothing else
   abbrev pub alone : Bool
-  alone = eqb taken (len (q .plan) (q .start)) && not (is-free (q .plan) (q .start))
+  alone = not (is-free (q .plan) (q .start)) && eqb taken (len (q .plan) (q .start))
 
   -- [Train, start, finish] the free length at the finish end; on the start section the whole length where the train is alone
   abbrev pub finish-room : ℕ
@@ -59,11 +59,11 @@ module _ (q : Query) where
   abbrev pub start-good : Bool
   start-good = destination-end (q .start) (q .start-end) && stands
 
-  -- [Refusal 9] it enters a destination section by one of its ends, and not where it started
+  -- [Refusal 9] the train enters a destination section by one of its ends, and not where it started
   abbrev pub finish-good : Bool
   finish-good = destination-end (q .finish) (q .finish-end) && not (eqb (q .start) (q .finish) && eqb (q .start-end) (q .finish-end))
 
-  -- [Refusal 10] it fits there
+  -- [Refusal 10] the finish room is at least the train's length
   abbrev pub room-good : Bool
   room-good = leb (q .train) finish-room
 

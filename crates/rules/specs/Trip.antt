@@ -38,7 +38,7 @@ module _ (t : Trip) where
     pub may : T (t .may-step (sec b))
     pub turn : T (reverses a b) → (qs : List ℕ) × PullOut (t .plan) (t .may-pull) (t .need) (sec a) (to-point (t .plan) a) (sec b) qs
 
-  -- [An admissible walk] its cost: the section's length, and for a reversal the train's length before it
+  -- [An admissible walk] what a step costs: the section's length, and for a reversal the train's length before it
   abbrev pub cost : ℕ → ℕ → ℕ
   cost a b = cond (reverses a b) (t .need) 0 + len (t .plan) (sec b)
 
@@ -48,11 +48,11 @@ module _ (t : Trip) where
     pub point : to-point (t .plan) a ≡ t .goal
     pub over : sec a ≢ t .finish
 
-  -- [An admissible walk] these together
+  -- [An admissible walk] the steps, their costs, the ends and the room of a trip
   abbrev pub net-of : Net
   net-of = record { Step = Step; cost = cost; Finish = Finish; room = t .room }
 
-  -- [An admissible walk] how many of its steps are reversals
+  -- [An admissible walk] how many steps of a list are reversals
   abbrev pub reversals : ℕ → List ℕ → ℕ
   reversals a [] = 0
   reversals a (b ∷ bs) = cond (reverses a b) 1 0 + reversals b bs
