@@ -1,5 +1,6 @@
 -- What follows from the definitions of document 01: laws of tests, of walks and labels, and of the answers.
 pub mod Tests
+pub mod Branches
 pub mod Ranges
 pub mod Verdicts
 pub mod Pigeon

@@ -56,6 +56,13 @@ pub passes-once : (b : Bool) (n : ℕ) (cs : List Check) → T (not b) → verdi
 passes-once true n cs t = absurd t
 passes-once false n cs t = refl
 
+-- the same for a function that asks whether all is well, r, and refuses where it is not
+pub refused-by : {r : Bool} (b : Bool) (n : ℕ) (cs : List Check) → r ≡ b → not r ≡ true → refused-at n 0 ≡ verdict (once n (not b) ∷ cs)
+refused-by b n cs e h = sym (refuses-once (not b) n cs (rw (← e, h) tt))
+
+pub passed-by : {r : Bool} (b : Bool) (n : ℕ) (cs : List Check) → r ≡ b → not r ≡ false → verdict cs ≡ verdict (once n (not b) ∷ cs)
+passed-by b n cs e h = sym (passes-once (not b) n cs (rw (← e, h) tt))
+
 -- where nothing is refused, no check applies; and the other way round
 pub passes : (cs : List Check) → T (numbered cs) → verdict cs ≡ passed → Passed cs
 passes [] n e = tt
