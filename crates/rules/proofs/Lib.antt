@@ -1,3 +1,5 @@
 pub mod Tests
 pub mod Ranges
 pub mod Verdicts
+pub mod Ways
+pub mod PullWays
