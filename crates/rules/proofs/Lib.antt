@@ -3,3 +3,5 @@ pub mod Ranges
 pub mod Verdicts
 pub mod Ways
 pub mod PullWays
+pub mod Smallest
+pub mod PullSearch
