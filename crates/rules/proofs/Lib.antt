@@ -5,3 +5,5 @@ pub mod Ways
 pub mod PullWays
 pub mod Smallest
 pub mod PullSearch
+pub mod StepTests
+pub mod LabelTests

@@ -9,7 +9,7 @@ use native.Mathlib.Omega.{arith}
 use lib.Dec.{T, eqb, leb, leb→le, nleb→lt}
 use Rattle.rules.specs.Plan.{Plan, section-count, end-A, len, free-A, free-B, is-free, touches, far, free-from, forbidden}
 use Rattle.rules.specs.Net.{over}
-use Rattle.rules.specs.PullOut.{FirstPullOut, NoPullOut}
+use Rattle.rules.specs.PullOut.{PullOut, FirstPullOut, NoPullOut}
 use Rattle.rules.proofs.Tests.{tests, clash, and-T, T-and, and-iff, not-eqb-iff}
 use Rattle.rules.proofs.Ways.{may-use, only, mark, Fits, Way, last, next, way-fits}
 use Rattle.rules.proofs.PullWays.{pull-way, way-pull}
@@ -104,13 +104,20 @@ module _ (y : Plan) (may : ℕ → Bool) where
       tried (find k) q l
       (λ s. let d = pos q l in find-right pos k (r - len y q) q (far y q p) (mark (far y q p) marks) (omega arith)))
 
--- the first pull-out for (c, p, s): the length to take bounds its number of sections
+-- the first pull-out for (c, p, s), where the length to take bounds the number of its sections; and whether there is one
 abbrev pub pull-out-of : Plan → (ℕ → Bool) → ℕ → ℕ → ℕ → ℕ → Option (List ℕ)
-pull-out-of y may-pull need c p s = find y (may-use may-pull c s) (suc need) need c p (only p)
+pull-out-of y may-pull need c p s = find y (may-use may-pull c s) (need + 1) need c p (only p)
+
+abbrev pub is-some : Option (List ℕ) → Bool
+is-some none = false
+is-some (some qs) = true
+
+abbrev pub has-pull-out : Plan → (ℕ → Bool) → ℕ → ℕ → ℕ → ℕ → Bool
+has-pull-out y may-pull need c p s = is-some (pull-out-of y may-pull need c p s)
 
 module _ (y : Plan) (may-pull : ℕ → Bool) (need c p s : ℕ) (pos : Positive y) where
   searched : Smallest (Way y (may-use may-pull c s) need c p (only p)) (pull-out-of y may-pull need c p s)
-  searched = find-right y (may-use may-pull c s) pos (suc need) need c p (only p) (omega arith)
+  searched = find-right y (may-use may-pull c s) pos (need + 1) need c p (only p) (omega arith)
 
   pub pull-found : 0 < need → (qs : List ℕ) → pull-out-of y may-pull need c p s ≡ some qs → FirstPullOut y may-pull need c p s qs
   pull-found z qs e = go (rw e at searched)
@@ -123,3 +130,17 @@ module _ (y : Plan) (may-pull : ℕ → Bool) (need c p s : ℕ) (pos : Positive
     where
       go : Smallest (Way y (may-use may-pull c s) need c p (only p)) none → NoPullOut y may-pull need c p s
       go (missing n) qs t = n qs (pull-way t)
+
+  pub pull-T : 0 < need → T (has-pull-out y may-pull need c p s) → (qs : List ℕ) × PullOut y may-pull need c p s qs
+  pull-T z = go (pull-out-of y may-pull need c p s) refl
+    where
+      go : (o : Option (List ℕ)) → pull-out-of y may-pull need c p s ≡ o → T (is-some o) → (qs : List ℕ) × PullOut y may-pull need c p s qs
+      go none e t = absurd t
+      go (some qs) e t = (qs, pull-found z qs e .pull-out)
+
+  pub T-pull : (qs : List ℕ) → PullOut y may-pull need c p s qs → T (has-pull-out y may-pull need c p s)
+  T-pull qs t = go (pull-out-of y may-pull need c p s) refl
+    where
+      go : (o : Option (List ℕ)) → pull-out-of y may-pull need c p s ≡ o → T (is-some o)
+      go none e = pull-missing e qs t
+      go (some rs) e = tt
