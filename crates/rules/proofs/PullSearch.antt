@@ -7,25 +7,17 @@ use mathlib.Core.List.{List, [], _∷_}
 use Prim.Native.Nat.{ℕ, zero, suc, _+_, _-_, _≤_, _<_}
 use native.Mathlib.Omega.{arith}
 use lib.Dec.{T, eqb, leb, leb→le, nleb→lt}
-use Rattle.rules.specs.Plan.{Plan, section-count, end-A, len, free-A, free-B, is-free, touches, far, free-from, forbidden}
+use Rattle.rules.specs.Plan.{Plan, section-count, len, is-free, touches, far, free-from, forbidden}
 use Rattle.rules.specs.Net.{over}
 use Rattle.rules.specs.PullOut.{PullOut, FirstPullOut, NoPullOut}
-use Rattle.rules.proofs.Tests.{tests, clash, and-T, T-and, and-iff, not-eqb-iff}
-use Rattle.rules.proofs.Ways.{may-use, only, mark, Fits, Way, last, next, way-fits}
-use Rattle.rules.proofs.PullWays.{pull-way, way-pull}
+use Rattle.rules.proofs.Tests.{clash, and-T, T-and, and-iff, not-eqb-iff}
+use Rattle.rules.proofs.Ways.{may-use, only, mark, Fits, Way, last, next, free-whole, way-fits, way-onward}
+use Rattle.rules.proofs.PullWays.{first-pull, no-pull}
 use Rattle.rules.proofs.Smallest.{Smallest, found, missing, first-list, Begins, first-list-right, on-test, same-lists}
 
--- every section has some length: what makes the search end
+-- every section has some length: so what is left to take falls from section to section
 abbrev pub Positive : Plan → Type 0
 Positive y = (q : ℕ) → q < section-count y → 1 ≤ len y q
-
--- the free length of a free section is its length, from either end
-pub free-whole : (y : Plan) (q p : ℕ) → T (is-free y q) → free-from y q p ≡ len y q
-free-whole y q p t = let h = simp tests at t in go (eqb (end-A y q) p) refl (h .0) (h .1)
-  where
-    go : (o : Bool) → eqb (end-A y q) p ≡ o → free-A y q ≡ len y q → free-B y q ≡ len y q → free-from y q p ≡ len y q
-    go true e a b = rw e a
-    go false e a b = rw e b
 
 module _ (y : Plan) (may : ℕ → Bool) where
   -- the test of `Fits`, for a section of the plan
@@ -55,24 +47,18 @@ module _ (y : Plan) (may : ℕ → Bool) where
   find zero r c p marks = none
   find (suc k) r c p marks = first-list (attempt (find k) r c p marks) 0 (section-count y)
 
-  fits-T : (c p q : ℕ) → q < section-count y → T (fits c p q) → Fits y may c p q
+  pub fits-T : (c p q : ℕ) → q < section-count y → T (fits c p q) → Fits y may c p q
   fits-T c p q l t =
       let h = simp and-iff at t in
       record { inside = l; touch = h .0 .0 .0; turn = h .0 .0 .1; other = not-eqb-iff q c .0 (h .0 .1); usable = h .1 }
 
-  T-fits : {c p q : ℕ} → Fits y may c p q → T (fits c p q)
+  pub T-fits : {c p q : ℕ} → Fits y may c p q → T (fits c p q)
   T-fits {c} {p} {q} f = simp and-iff (((f .touch, f .turn), not-eqb-iff q c .1 (f .other)), f .usable)
 
   module _ {r c p : ℕ} {marks : ℕ → Bool} where
     begins : (qs : List ℕ) → Way y may r c p marks qs → Begins 0 (0 + section-count y) qs
     begins qs (last f e) = (omega arith, omega (arith, f .inside))
     begins qs (next f e h u w) = (omega arith, omega (arith, f .inside))
-
-    -- a way goes on beyond a section that is too short to be the last
-    onward : {q : ℕ} {qs : List ℕ} → free-from y q p < r → Way y may r c p marks (q ∷ qs)
-        → T (passable p marks q) × Way y may (r - len y q) q (far y q p) (mark (far y q p) marks) qs
-    onward l (last f e) = absurd (omega arith)
-    onward {q} l (next f e h u w) = (T-and (is-free y q) (not (marks (far y q p))) e u, w)
 
     -- what is found over section q, where the search from its far end is right
     tried : (further : ℕ → ℕ → ℕ → (ℕ → Bool) → Option (List ℕ)) (q : ℕ) → q < section-count y
@@ -84,7 +70,7 @@ module _ (y : Plan) (may : ℕ → Bool) where
             → Smallest (λ rs. Way y may r c p marks (q ∷ rs)) (further (r - len y q) q (far y q p) (mark (far y q p) marks))
         goes-on f n v =
             let h : len y q < r = rw (free-whole y q p (v .0)) at n in
-            same-lists (λ rs w. next f (v .0) h (v .1) w) (λ rs w. onward n w .1) (right h)
+            same-lists (λ rs w. next f (v .0) h (v .1) w) (λ rs w. way-onward n w .2) (right h)
 
         enters : Fits y may c p q → Smallest (λ rs. Way y may r c p marks (q ∷ rs)) (elim (leb r (free-from y q p)) [
           | true ↦ some []
@@ -94,7 +80,7 @@ module _ (y : Plan) (may : ℕ → Bool) where
             on-test (leb r (free-from y q p)) (λ t. found (last f (leb→le r (free-from y q p) t)) (λ rs w. over))
             (λ t. let n = nleb→lt r (free-from y q p) t in
             on-test (passable p marks q) (λ u. goes-on f n (and-T (is-free y q) (not (marks (far y q p))) u))
-            (λ u. missing (λ rs w. clash (passable p marks q) (onward n w .0) u)))
+            (λ u. missing (λ rs w. let v = way-onward n w in clash (passable p marks q) (T-and (is-free y q) (not (marks (far y q p))) (v .0) (v .1)) u)))
 
   pub find-right : Positive y → (k r c p : ℕ) (marks : ℕ → Bool) → r < k → Smallest (Way y may r c p marks) (find k r c p marks)
   find-right pos zero r c p marks h = absurd (omega arith)
@@ -104,11 +90,11 @@ module _ (y : Plan) (may : ℕ → Bool) where
       tried (find k) q l
       (λ s. let d = pos q l in find-right pos k (r - len y q) q (far y q p) (mark (far y q p) marks) (omega arith)))
 
--- the first pull-out for (c, p, s), where the length to take bounds the number of its sections; and whether there is one
+-- the first pull-out for (c, p, s), which has no more sections than it has to take; and whether there is one
 abbrev pub pull-out-of : Plan → (ℕ → Bool) → ℕ → ℕ → ℕ → ℕ → Option (List ℕ)
 pull-out-of y may-pull need c p s = find y (may-use may-pull c s) (need + 1) need c p (only p)
 
-abbrev pub is-some : Option (List ℕ) → Bool
+abbrev is-some : Option (List ℕ) → Bool
 is-some none = false
 is-some (some qs) = true
 
@@ -123,13 +109,13 @@ module _ (y : Plan) (may-pull : ℕ → Bool) (need c p s : ℕ) (pos : Positive
   pull-found z qs e = go (rw e at searched)
     where
       go : Smallest (Way y (may-use may-pull c s) need c p (only p)) (some qs) → FirstPullOut y may-pull need c p s qs
-      go (found w b) = record { pull-out = way-pull z w; first = λ rs t. b rs (pull-way t) }
+      go (found w b) = first-pull z w b
 
   pub pull-missing : pull-out-of y may-pull need c p s ≡ none → NoPullOut y may-pull need c p s
   pull-missing e = go (rw e at searched)
     where
       go : Smallest (Way y (may-use may-pull c s) need c p (only p)) none → NoPullOut y may-pull need c p s
-      go (missing n) qs t = n qs (pull-way t)
+      go (missing n) = no-pull n
 
   pub pull-T : 0 < need → T (has-pull-out y may-pull need c p s) → (qs : List ℕ) × PullOut y may-pull need c p s qs
   pull-T z = go (pull-out-of y may-pull need c p s) refl

@@ -9,7 +9,8 @@ use native.Mathlib.Omega.{arith}
 use lib.Dec.{T, eqb→eq, eqb-refl}
 use Rattle.rules.specs.Ranges.{nil, cons}
 use Rattle.rules.specs.Plan.{Plan, len, is-free, touches, far, free-from}
-use Rattle.rules.specs.PullOut.{all-but-last, Chain, chain, chain-end, entries, Turns, turns, turns-end, PullOut}
+use Rattle.rules.specs.Net.{NotAfter}
+use Rattle.rules.specs.PullOut.{all-but-last, Chain, chain, chain-end, entries, Turns, turns, turns-end, PullOut, FirstPullOut, NoPullOut}
 use Rattle.rules.proofs.Tests.{tests, fails}
 use Rattle.rules.proofs.Ranges.{distinct-head, distinct-tail}
 use Rattle.rules.proofs.Ways.{may-use, only, mark, Fits, Way, last, next, mark-put, mark-stays, mark-cases, Fresh, unentered, two-ends, way-usable, way-fresh, no-return}
@@ -90,7 +91,7 @@ module _ {y : Plan} {may may-pull : ℕ → Bool} where
       fresh : Fresh y (far y q p) (mark (far y q p) marks) (j ∷ qs)
       fresh k m o = ⊎-elim (λ i. i) (λ i. absurd (beyond k m i)) (mark-cases (far y q p) marks k o)
 
-  -- a way is a pull-out, where p has a mark and the sections are none of those to be left alone
+  -- a way is a pull-out, where p has a mark and none of the sections is c, s or one that may not be used
   way-clauses : {r c p s : ℕ} {marks : ℕ → Bool} {qs : List ℕ} → (List·Memᴰ c qs → ⊥) → (List·Memᴰ s qs → ⊥) → ((k : ℕ) → List·Memᴰ k qs → T (may-pull k))
       → T (marks p) → 0 < r → Way y may r c p marks qs → PullOut y may-pull r c p s qs
   way-clauses nc ns us mp z (last f e) = record {
@@ -113,15 +114,24 @@ module _ {y : Plan} {may may-pull : ℕ → Bool} where
       both-marked : (k : ℕ) → T (touches y q k) → T (mark (far y q p) marks k)
       both-marked k t = ⊎-elim (λ i. mark-stays (far y q p) marks k (rw i mp)) (λ i. rw i (mark-put (far y q p) marks)) (two-ends y q p k (f .touch) t)
 
-module _ {y : Plan} {may-pull : ℕ → Bool} {need c p s : ℕ} {qs : List ℕ} where
-  pub pull-way : PullOut y may-pull need c p s qs → Way y (may-use may-pull c s) need c p (only p) qs
-  pull-way t = clauses-way qs usable (λ k m. eqb→eq k p) t
+-- the two are the same; the way back asks that there is a length to take, which a pull-out says itself
+module _ {y : Plan} {may-pull : ℕ → Bool} {need c p s : ℕ} where
+  pub pull-way : {qs : List ℕ} → PullOut y may-pull need c p s qs → Way y (may-use may-pull c s) need c p (only p) qs
+  pull-way {qs} t = clauses-way qs usable (λ k m. eqb→eq k p) t
     where
       usable : (k : ℕ) → List·Memᴰ k qs → T (may-use may-pull c s k)
       usable k m = simp tests ((t .usable k m, λ e. t .not-c (Memᴰ·cast (sym e) m)), λ e. t .not-s (Memᴰ·cast (sym e) m))
 
-  pub way-pull : 0 < need → Way y (may-use may-pull c s) need c p (only p) qs → PullOut y may-pull need c p s qs
-  way-pull z w = way-clauses (λ m. used c m .0 .1 refl) (λ m. used s m .1 refl) (λ k m. used k m .0 .0) (eqb-refl p) z w
+  pub way-pull : {qs : List ℕ} → 0 < need → Way y (may-use may-pull c s) need c p (only p) qs → PullOut y may-pull need c p s qs
+  way-pull {qs} z w = way-clauses (λ m. used c m .0 .1 refl) (λ m. used s m .1 refl) (λ k m. used k m .0 .0) (eqb-refl p) z w
     where
       used : (k : ℕ) → List·Memᴰ k qs → (T (may-pull k) × (k ≢ c)) × (k ≢ s)
       used k m = simp tests at (way-usable w k m)
+
+  -- so the smallest way is the first pull-out, and without a way there is no pull-out
+  pub first-pull : {qs : List ℕ} → 0 < need → Way y (may-use may-pull c s) need c p (only p) qs
+      → ((rs : List ℕ) → Way y (may-use may-pull c s) need c p (only p) rs → NotAfter qs rs) → FirstPullOut y may-pull need c p s qs
+  first-pull z w b = record { pull-out = way-pull z w; first = λ rs t. b rs (pull-way t) }
+
+  pub no-pull : ((rs : List ℕ) → Way y (may-use may-pull c s) need c p (only p) rs → ⊥) → NoPullOut y may-pull need c p s
+  no-pull n qs t = n qs (pull-way t)

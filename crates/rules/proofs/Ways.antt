@@ -7,10 +7,11 @@ use mathlib.Core.Logic.{_≢_, _⊎_, inl, inr, ⊎-elim}
 use mathlib.Core.Bool.{Bool, true, false, cond, not, _&&_, _||_}
 use mathlib.Core.List.{List, [], _∷_, List·Memᴰ, List·Memᴰ·head as at-head, List·Memᴰ·tail as in-tail, List·Memᴰ·not-nil as not-in-nil}
 use Prim.Native.Nat.{ℕ, _-_, _≤_, _<_}
+use native.Mathlib.Omega.{arith}
 use lib.Dec.{T, eqb, eqb→eq, eqb-refl}
-use Rattle.rules.specs.Plan.{Plan, section-count, end-A, end-B, len, is-free, touches, far, free-from, forbidden}
+use Rattle.rules.specs.Plan.{Plan, section-count, end-A, end-B, len, free-A, free-B, is-free, touches, far, free-from, forbidden}
 use Rattle.rules.specs.PullOut.{entries}
-use Rattle.rules.proofs.Tests.{clash, fails, or-T, T-or-left, T-or-right}
+use Rattle.rules.proofs.Tests.{tests, clash, fails, or-T, T-or-left, T-or-right}
 
 -- the sections that a pull-out for (c, p, s) may use
 abbrev pub may-use : (ℕ → Bool) → ℕ → ℕ → ℕ → Bool
@@ -33,7 +34,7 @@ module _ (y : Plan) (may : ℕ → Bool) where
     pub usable : T (may q)
 
   -- the sections of the list take the length r of a train that came over section c to the point p, where it enters the first of
-  -- them; p and the points entered before have marks, and it enters no other point that has one
+  -- them; p and the points entered before have marks, and the train enters no other point that has one
   pub data Way : (r c p : ℕ) (marks : ℕ → Bool) → List ℕ → Type 0 where
     last : {r c p q : ℕ} {marks : ℕ → Bool} → Fits c p q → r ≤ free-from y q p → Way r c p marks (q ∷ [])
     next : {r c p q : ℕ} {marks : ℕ → Bool} {qs : List ℕ} → Fits c p q → T (is-free y q) → len y q < r → T (not (marks (far y q p)))
@@ -76,11 +77,25 @@ two-ends y q p e t u = go (eqb a p) refl (or-T (eqb a p) (eqb b p) t) (or-T (eqb
     go false h (inr s) (inl v) = inr (sym (eqb→eq a e v))
     go false h (inr s) (inr v) = inl (sym (eqb→eq b e v) ∙ eqb→eq b p s)
 
--- what the steps of a way say of its whole list
+-- the free length of a free section is its length, from either end
+pub free-whole : (y : Plan) (q p : ℕ) → T (is-free y q) → free-from y q p ≡ len y q
+free-whole y q p t = let h = simp tests at t in go (eqb (end-A y q) p) refl (h .0) (h .1)
+  where
+    go : (o : Bool) → eqb (end-A y q) p ≡ o → free-A y q ≡ len y q → free-B y q ≡ len y q → free-from y q p ≡ len y q
+    go true e a b = rw e a
+    go false e a b = rw e b
+
+-- what a way says of its first section, and what its steps say of the whole list
 module _ {y : Plan} {may : ℕ → Bool} where
   pub way-fits : {r c p q : ℕ} {marks : ℕ → Bool} {qs : List ℕ} → Way y may r c p marks (q ∷ qs) → Fits y may c p q
   way-fits (last f e) = f
   way-fits (next f e h u w) = f
+
+  -- beyond a section that is too short to be the last, it goes on
+  pub way-onward : {r c p q : ℕ} {marks : ℕ → Bool} {qs : List ℕ} → free-from y q p < r → Way y may r c p marks (q ∷ qs)
+      → T (is-free y q) × T (not (marks (far y q p))) × Way y may (r - len y q) q (far y q p) (mark (far y q p) marks) qs
+  way-onward l (last f e) = absurd (omega arith)
+  way-onward l (next f e h u w) = (e, u, w)
 
   pub way-usable : {r c p : ℕ} {marks : ℕ → Bool} {qs : List ℕ} → Way y may r c p marks qs → (k : ℕ) → List·Memᴰ k qs → T (may k)
   way-usable (last f e) k (at-head z) = rw z (f .usable)
