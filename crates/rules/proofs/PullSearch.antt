@@ -90,7 +90,7 @@ module _ (y : Plan) (may : ℕ → Bool) where
       tried (find k) q l
       (λ s. let d = pos q l in find-right pos k (r - len y q) q (far y q p) (mark (far y q p) marks) (omega arith)))
 
--- the first pull-out for (c, p, s), which has no more sections than it has to take; and whether there is one
+-- the first pull-out for (c, p, s), searched for to a depth of the length that it has to take; and whether there is one
 abbrev pub pull-out-of : Plan → (ℕ → Bool) → ℕ → ℕ → ℕ → ℕ → Option (List ℕ)
 pull-out-of y may-pull need c p s = find y (may-use may-pull c s) (need + 1) need c p (only p)
 
