@@ -12,3 +12,9 @@ pub mod Trips
 pub mod SearchAnswers
 pub mod PullAnswers
 pub mod SheetAnswers
+pub mod Ways
+pub mod PullWays
+pub mod Smallest
+pub mod PullSearch
+pub mod StepTests
+pub mod LabelTests
