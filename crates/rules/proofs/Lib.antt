@@ -18,3 +18,4 @@ pub mod Smallest
 pub mod PullSearch
 pub mod StepTests
 pub mod LabelTests
+pub mod Certificate
