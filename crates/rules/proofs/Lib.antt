@@ -19,3 +19,5 @@ pub mod PullSearch
 pub mod StepTests
 pub mod LabelTests
 pub mod Certificate
+pub mod SheetTests
+pub mod Table

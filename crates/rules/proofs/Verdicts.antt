@@ -63,22 +63,39 @@ refused-by b n cs e h = sym (refuses-once (not b) n cs (rw (← e, h) tt))
 pub passed-by : {r : Bool} (b : Bool) (n : ℕ) (cs : List Check) → r ≡ b → not r ≡ false → verdict cs ≡ verdict (once n (not b) ∷ cs)
 passed-by b n cs e h = sym (passes-once (not b) n cs (rw (← e, h) tt))
 
+-- the first check of a list stops at its lowest place, or applies nowhere and leaves the verdict v to the rest
+pub data FirstCheck (c : Check) (cs : List Check) (v : Verdict) : Type 0 where
+  stops : (k : ℕ) → k < c .places → T (c .bad k) → ((h : ℕ) → h < k → T (not (c .bad h))) → v ≡ refused-at (c .number) k → FirstCheck c cs v
+  leaves : ((h : ℕ) → h < c .places → T (not (c .bad h))) → v ≡ verdict cs → FirstCheck c cs v
+
+pub first-check : (c : Check) (cs : List Check) → FirstCheck c cs (verdict (c ∷ cs))
+first-check c cs = go (least (c .bad) 0 (c .places))
+  where
+    go : Least (c .bad) 0 (c .places) (first-of (c .bad) 0 (c .places)) → FirstCheck c cs (verdict (c ∷ cs))
+    go (hit u v t g) =
+        stops (first-of (c .bad) 0 (c .places)) (omega arith) t (λ h l. g h (omega arith) l)
+        (refuses c cs (first-of (c .bad) 0 (c .places)) refl (omega arith))
+    go (past e g) = leaves (λ h l. g h (omega arith) (omega arith)) (goes-on c cs (first-of (c .bad) 0 (c .places)) refl (omega arith))
+
+-- a verdict with the number 0 is the one that refuses nothing
+pub number-0 : (cs : List Check) → T (numbered cs) → verdict cs .number ≡ 0 → verdict cs ≡ passed
+number-0 [] n e = refl
+number-0 (c ∷ cs) n e = go (first-check c cs) e (and-T (ltb 0 (c .number)) (numbered cs) n) (λ m q. number-0 cs m q)
+  where
+    go : {v : Verdict} → FirstCheck c cs v → v .number ≡ 0 → T (ltb 0 (c .number)) × T (numbered cs)
+        → (T (numbered cs) → verdict cs .number ≡ 0 → verdict cs ≡ passed) → v ≡ passed
+    go (stops k l t g q) z h below = let o = ltb→lt 0 (c .number) (h .0) in let w = ap number-of q in absurd (omega arith)
+    go (leaves g q) z h below = q ∙ below (h .1) (sym (ap number-of q) ∙ z)
+
 -- where nothing is refused, no check applies; and the other way round
 pub passes : (cs : List Check) → T (numbered cs) → verdict cs ≡ passed → Passed cs
 passes [] n e = tt
-passes (c ∷ cs) n e = go (ltb k (c .places)) refl e (λ q. passes cs (and-T (ltb 0 (c .number)) (numbered cs) n .1) q)
+passes (c ∷ cs) n e = go (first-check c cs) e (and-T (ltb 0 (c .number)) (numbered cs) n) (λ m q. passes cs m q)
   where
-    k : ℕ
-    k = first-of (c .bad) 0 (c .places)
-
-    none-bad : ltb k (c .places) ≡ false → Least (c .bad) 0 (c .places) k → (h : ℕ) → h < c .places → T (not (c .bad h))
-    none-bad b (hit u v t g) h l = let z = nltb→le k (c .places) (rw b tt) in absurd (omega arith)
-    none-bad b (past q g) h l = g h (omega arith) (omega arith)
-
-    go : (b : Bool) → ltb k (c .places) ≡ b → elim b [ true ↦ refused-at (c .number) k | false ↦ verdict cs ] ≡ passed
-        → (verdict cs ≡ passed → Passed cs) → Passed (c ∷ cs)
-    go true b q below = let l = ltb→lt 0 (c .number) (and-T (ltb 0 (c .number)) (numbered cs) n .0) in let z = ap number-of q in absurd (omega arith)
-    go false b q below = (none-bad b (least (c .bad) 0 (c .places)), below q)
+    go : {v : Verdict} → FirstCheck c cs v → v ≡ passed → T (ltb 0 (c .number)) × T (numbered cs)
+        → (T (numbered cs) → verdict cs ≡ passed → Passed cs) → Passed (c ∷ cs)
+    go (stops k l t g q) z h below = let o = ltb→lt 0 (c .number) (h .0) in let w = ap number-of (sym q ∙ z) in absurd (omega arith)
+    go (leaves g q) z h below = (g, below (h .1) (sym q ∙ z))
 
 pub accepts : (cs : List Check) → Passed cs → verdict cs ≡ passed
 accepts [] p = refl
