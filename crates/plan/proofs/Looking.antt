@@ -1,0 +1,28 @@
+-- A loop that looks for the first number at which a test holds: what it keeps, and what it has found.
+-- Assumes nothing.
+use mathlib.Core.Path.{_≡_, sym}
+use mathlib.Core.Bool.{Bool, true, false, not}
+use Prim.Native.Nat.{ℕ, _+_, _≤_, _<_}
+use native.Mathlib.Omega.{arith}
+use lib.Dec.{T}
+use Rattle.rules.specs.Ranges.{first-of}
+use Rattle.rules.proofs.Tests.{says-true, says-false}
+use Rattle.rules.proofs.Ranges.{first-is, first-past, one-more}
+
+-- the test fails at each number below i
+pub record Clear (f : ℕ → Bool) (i : ℕ) : Type 0 where
+  pub below : (h : ℕ) → h < i → T (not (f h))
+
+pub clear-none : {f : ℕ → Bool} → Clear f 0
+clear-none = record { below = λ h l. absurd (omega arith) }
+
+-- r is the value of the test at i, and n the number m at which the loop ends
+module _ {f : ℕ → Bool} {i : ℕ} {r : Bool} (c : Clear f i) (e : r ≡ f i) where
+  pub clear-next : r ≡ false → Clear f (i + 1)
+  clear-next n = record { below = one-more f (c .below) (says-false (f i) n e) }
+
+  pub found : {n m : ℕ} → n ≡ m → i < n → r ≡ true → i ≡ first-of f 0 m
+  found {n} {m} q l y = sym (first-is f m i (omega arith) (says-true (f i) y e) (c .below))
+
+pub not-found : {f : ℕ → Bool} {i n m : ℕ} → Clear f i → n ≡ m → i ≤ n → n ≤ i → i ≡ first-of f 0 m
+not-found {f} {i} {n} {m} c q l g = let z : i ≡ m = omega arith in rw z (sym (first-past f m (rw z at (c .below))))
