@@ -1,2 +1,4 @@
 pub mod Branches
 pub mod Looking
+pub mod Counting
+pub mod Counts

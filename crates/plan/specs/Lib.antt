@@ -1,0 +1,2 @@
+-- What this crate says beyond the rules.
+pub mod Ends
