@@ -1,4 +1,6 @@
 pub mod Branches
 pub mod Looking
 pub mod Counting
+pub mod Touching
 pub mod Counts
+pub mod SlotTable

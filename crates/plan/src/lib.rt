@@ -3,4 +3,5 @@ pub mod degree;
 pub mod own_rule;
 pub mod read;
 pub mod section;
+pub mod slots;
 pub mod tables;
