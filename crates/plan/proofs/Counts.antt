@@ -15,7 +15,7 @@ use Rattle.rules.specs.Ranges.{between}
 use Rattle.rules.specs.Plan.{of-sections, section-count, end-A, end-B, touches}
 use Rattle.rules.proofs.Tests.{tests, fails, clash, gives-true, gives-same}
 use Rattle.rules.proofs.Ranges.{count-next, count-le}
-use Rattle.plan.specs.Ends.{Joins, Joined, Degrees, degree-before, counted}
+use Rattle.plan.specs.Ends.{Joins, Joined, AtMostThree, Degrees, degree-before, counted}
 
 -- d counts the first k sections
 pub record Counts (ss d : List ℕ) (k : ℕ) : Type 0 where
@@ -27,6 +27,10 @@ counts-none = record { long = length-replicate {A = ℕ} 768 0; at = λ p h. get
 
 pub counts-all : {ss d : List ℕ} {k n : ℕ} → Counts ss d k → n ≡ section-count (of-sections ss) → k ≤ n → n ≤ k → Degrees ss d
 counts-all {ss} {d} {k} c e l g = let z : k ≡ section-count (of-sections ss) = omega arith in record { at = rw z at (c .at) }
+
+-- a table of degrees in which nothing is over three
+pub none-over : {ss d : List ℕ} → Degrees ss d → ((p : ℕ) → p < 768 → getD d p 0 ≤ 3) → AtMostThree ss
+none-over t all = record { at = λ p h. omega (arith, t .at p h, all p h) }
 
 pub counted-at : (d : List ℕ) (a p : ℕ) → a < length d → getD (counted d a) p 0 ≡ getD d p 0 + cond (eqb a p) 1 0
 counted-at d a p h = go (ℕ-discrete a p)

@@ -4,3 +4,4 @@ pub mod Counting
 pub mod Touching
 pub mod Counts
 pub mod SlotTable
+pub mod Nearby

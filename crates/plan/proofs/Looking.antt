@@ -5,9 +5,9 @@ use mathlib.Core.Bool.{Bool, true, false, not}
 use Prim.Native.Nat.{ℕ, _+_, _≤_, _<_}
 use native.Mathlib.Omega.{arith}
 use lib.Dec.{T}
-use Rattle.rules.specs.Ranges.{first-of}
-use Rattle.rules.proofs.Tests.{says-true, says-false}
-use Rattle.rules.proofs.Ranges.{first-is, first-past, one-more}
+use Rattle.rules.specs.Ranges.{first-of, some-of}
+use Rattle.rules.proofs.Tests.{clash, gives-true, gives-false, says-true, says-false}
+use Rattle.rules.proofs.Ranges.{some-T, T-some, first-is, first-past, one-more}
 
 -- the test fails at each number below i
 pub record Clear (f : ℕ → Bool) (i : ℕ) : Type 0 where
@@ -21,8 +21,15 @@ module _ {f : ℕ → Bool} {i : ℕ} {r : Bool} (c : Clear f i) (e : r ≡ f i)
   pub clear-next : r ≡ false → Clear f (i + 1)
   clear-next n = record { below = one-more f (c .below) (says-false (f i) n e) }
 
+  pub some-found : {n : ℕ} → i < n → r ≡ true → true ≡ some-of f 0 n
+  some-found {n} l y = gives-true (T-some f 0 n i (omega arith) (omega arith) (says-true (f i) y e))
+
   pub found : {n m : ℕ} → n ≡ m → i < n → r ≡ true → i ≡ first-of f 0 m
   found {n} {m} q l y = sym (first-is f m i (omega arith) (says-true (f i) y e) (c .below))
 
 pub not-found : {f : ℕ → Bool} {i n m : ℕ} → Clear f i → n ≡ m → i ≤ n → n ≤ i → i ≡ first-of f 0 m
 not-found {f} {i} {n} {m} c q l g = let z : i ≡ m = omega arith in rw z (sym (first-past f m (rw z at (c .below))))
+
+pub none-found : {f : ℕ → Bool} {i n : ℕ} → Clear f i → i ≤ n → n ≤ i → false ≡ some-of f 0 n
+none-found {f} {i} {n} c l g =
+    gives-false (λ t. let w = some-T f 0 n t in clash (f (w .0)) (w .2) (c .below (w .0) (omega (arith, w .1))))

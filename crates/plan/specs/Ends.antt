@@ -48,3 +48,9 @@ degree-bad-by d p = not (between 1 (getD d p 0) 3)
 pub record Slots (ss slots : List ℕ) : Type 0 where
   pub stands : (s p : ℕ) → s < section-count (of-sections ss) → T (touches (of-sections ss) s p)
       → getD slots (3 * p + degree-before ss p s) 0 ≡ s
+
+-- all that is known where such a table has been made
+pub record Indexed (ss slots : List ℕ) : Type 0 where
+  pub joined : Joined ss
+  pub three : AtMostThree ss
+  pub slotted : Slots ss slots

@@ -4,7 +4,11 @@ ghost use Prim.Native.Nat.{_+_, _*_, _<_};
 ghost use lib.ListN.{getD, set};
 ghost use Rattle.plan.specs.Ends.{Joined, AtMostThree, Slots, counted};
 use crate::degree::count_up;
-use crate::read::{END_A, END_B, section_count, section_number, wide};
+use crate::read::END_A;
+use crate::read::END_B;
+use crate::read::section_count;
+use crate::read::section_number;
+use crate::read::wide;
 
 // Puts section s into the next slot of point p.
 fn place(slots: &mut [u32; 2304], filled: &mut [u32; 768], p: u32, s: u32)
@@ -34,4 +38,13 @@ pub fn index(sections: &[u32]) -> [u32; 2304]
         s += 1;
     }
     slots
+}
+
+// What stands in slot j of point p. Only a slot below the point's degree holds a section.
+pub fn slot_at(slots: &[u32; 2304], p: u32, j: u32) -> u32
+    requires { ⌜ (p < 768) × (j < 3) ⌝ }
+    ensures { λ r. ⌜ r ≡ getD (now (slots .entry)) (3 * p + j) 0 ⌝ }
+{
+    let at = 3 * wide(p) + wide(j);
+    slots[at]
 }

@@ -52,9 +52,11 @@ loop-again c =
     let known = head .before .before .before .pre in
     let a = c .before .before .before .before .before .before .before .section-number .ensures in
     let b = c .before .before .before .before .before .before .section-number2 .ensures in
-    let first = c .before .before .before .place .ensures in
-    (omega arith, counts-more (known .0) (head .loop .inv .1) (omega arith) a (first .1) b (c .place2 .ensures .1),
-    held-more (known .0) (known .1) (head .loop .inv .2) (omega arith) (head .loop .inv .1) a b (first .1) (first .0) (c .place2 .ensures .0))
+    let first = c .before .before .before .place .ensures in (
+      omega arith,
+      counts-more (known .0) (head .loop .inv .1) (omega arith) a (first .1) b (c .place2 .ensures .1),
+      held-more (known .0) (known .1) (head .loop .inv .2) (omega arith) (head .loop .inv .1) a b (first .1) (first .0) (c .place2 .ensures .0),
+    )
 
 returns : tie.Need-returns Inv-loop μ-loop
 returns c = held-all (c .before .loop .inv .2) (c .before .before .section-count .ensures) (c .before .loop .inv .0) (c .loop-test .left)
