@@ -1,2 +1,3 @@
 -- What this crate says beyond the rules.
 pub mod Ends
+pub mod Turns

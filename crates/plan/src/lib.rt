@@ -6,3 +6,4 @@ pub mod read;
 pub mod section;
 pub mod slots;
 pub mod tables;
+pub mod turn;

@@ -1,6 +1,6 @@
 // What a section's numbers say of it: whether it is free, where it ends, and what another section shares with it.
 ghost use mathlib.Core.Path.{_≡_};
-ghost use Rattle.rules.specs.Plan.{of-sections, connecting, is-free, touches, far, free-from, same-ends, shared-point};
+ghost use Rattle.rules.specs.Plan.{of-sections, is-free, touches, far, free-from, same-ends, shared-point};
 use crate::read::END_A;
 use crate::read::END_B;
 use crate::read::FREE_A;
@@ -8,13 +8,6 @@ use crate::read::FREE_B;
 use crate::read::KIND;
 use crate::read::LENGTH;
 use crate::read::section_number;
-
-// Section s is a connecting section.
-pub fn is_connecting(sections: &[u32], s: u32) -> bool
-    ensures { λ r. ⌜ r ≡ connecting (of-sections (now (sections .entry))) s ⌝ }
-{
-    section_number(sections, s, KIND) == 0
-}
 
 // Nothing stands on section s.
 pub fn is_free(sections: &[u32], s: u32) -> bool
