@@ -5,3 +5,4 @@ pub mod Touching
 pub mod Counts
 pub mod SlotTable
 pub mod Nearby
+pub mod PointMarks

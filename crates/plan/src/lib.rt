@@ -3,6 +3,7 @@ pub mod degree;
 pub mod doubled;
 pub mod own_rule;
 pub mod read;
+pub mod second_turn;
 pub mod section;
 pub mod slots;
 pub mod tables;
