@@ -1,6 +1,6 @@
 -- A table that counts the sections at each point, one section after the other.
 -- Assumes nothing.
-use mathlib.Core.Path.{_≡_, sym, _∙_}
+use mathlib.Core.Path.{_≡_, refl, sym, _∙_}
 use mathlib.Core.Logic.{_≢_}
 use mathlib.Core.Bool.{Bool, true, not, cond, _||_}
 use mathlib.Core.List.{List}
@@ -11,11 +11,13 @@ use borrow.Author.Tests.{eq-eqb, ne-eqb}
 use lib.Dec.{T, eqb, ltb}
 use lib.ListN.{length, getD, set, length-set, replicate, length-replicate, getD-replicate}
 use lib.Seq.{getD-set-same, getD-set-other}
-use Rattle.rules.specs.Ranges.{between}
-use Rattle.rules.specs.Plan.{of-sections, section-count, end-A, end-B, touches}
+use Rattle.rules.specs.Ranges.{between, first-of}
+use Rattle.rules.specs.Plan.{plan-of, of-sections, section-count, end-A, end-B, touches}
+use Rattle.rules.specs.PlanCheck.{degree-bad}
 use Rattle.rules.proofs.Tests.{tests, fails, clash, gives-true, gives-same}
 use Rattle.rules.proofs.Ranges.{count-next, count-le}
-use Rattle.plan.specs.Ends.{Joins, Joined, AtMostThree, Degrees, degree-before, counted}
+use Rattle.plan.specs.Ends.{Joins, Joined, AtMostThree, Degrees, degree-before, counted, degree-bad-by}
+use Rattle.plan.proofs.Looking.{first-same}
 
 -- d counts the first k sections
 pub record Counts (ss d : List ℕ) (k : ℕ) : Type 0 where
@@ -102,3 +104,7 @@ too-many n l =
     under : Dec (n ≤ 3) → T (not (between 1 n 3)) → 3 < n
     under (yes d) t = absurd (clash (between 1 n 3) (simp tests (omega arith)) t)
     under (no d) t = omega arith
+
+pub by-degrees : {ss d : List ℕ} (v : ℕ) (ts : List ℕ) → Degrees ss d → v ≤ 768 → first-of (degree-bad-by d) 0 v ≡ first-of (degree-bad (plan-of v ss ts)) 0 v
+by-degrees {ss} {d} v ts t l =
+    first-same (degree-bad-by d) (degree-bad (plan-of v ss ts)) v (λ p h. rw (t .at p (omega arith)) refl)

@@ -6,3 +6,5 @@ pub mod Counts
 pub mod SlotTable
 pub mod Nearby
 pub mod PointMarks
+pub mod Rows
+pub mod Known

@@ -1,0 +1,52 @@
+-- `check_turns` meets its contract: the verdict of rows 5 and 6, row by row.
+-- Assumes nothing.
+use mathlib.Core.List.{[], _∷_}
+use mathlib.Core.Path.{refl}
+use borrow.Author.Needs.{needs}
+use Rattle.rules.specs.Plan.{plan-of, turn-count}
+use Rattle.rules.specs.PlanCheck.{turn-bad}
+use Rattle.plan.proofs.Known.{turned-known}
+use Rattle.plan.proofs.Looking.{all-clear}
+use Rattle.plan.proofs.Rows.{row-5, row-6, row-refuses, row-passes}
+use Rattle.plan.proofs.check_turns.Statement.{statement}
+use Rattle.plan.proofs.check_turns.Tie as tie
+
+turn-count-requires : tie.Need-turn-count-requires
+turn-count-requires c κs = search needs
+
+first-bad-turn-requires : tie.Need-first-bad-turn-requires
+first-bad-turn-requires c κs = search needs
+
+returns : tie.Need-returns
+returns c =
+    let y = plan-of 0 (c .before .before .before .before .before .args .sections .now) (c .before .before .before .before .before .args .turns .now) in
+    row-refuses (row-5 y) (row-6 y ∷ []) (c .before .first-bad-turn .ensures) (c .before .before .turn-count .ensures) (c .if1 .taken)
+
+first-second-turn-requires : tie.Need-first-second-turn-requires
+first-second-turn-requires c κs =
+    let y = plan-of 0 (c .before .before .before .before .before .args .sections .now) (c .before .before .before .before .before .args .turns .now) in
+    turned-known (c .before .before .before .before .before .pre .0) (c .before .before .before .before .before .pre .1)
+    (all-clear (turn-bad y) (turn-count y) (c .before .first-bad-turn .ensures) (c .before .before .turn-count .ensures) (c .if1 .left))
+
+returns-2 : tie.Need-returns-2
+returns-2 c =
+    let y = plan-of 0 (c .before .before .before .before .before .before .before .args .sections .now) (c .before .before .before .before .before .before .before .args .turns .now) in
+    row-passes (row-5 y) (row-6 y ∷ []) (c .before .before .before .first-bad-turn .ensures) (c .before .before .before .before .turn-count .ensures) (c .before .before .if1 .left)
+    (row-refuses (row-6 y) [] (c .before .first-second-turn .ensures) (c .before .before .before .before .turn-count .ensures) (c .if2 .taken))
+
+returns-3 : tie.Need-returns-3
+returns-3 c =
+    let y = plan-of 0 (c .before .before .before .before .before .before .before .args .sections .now) (c .before .before .before .before .before .before .before .args .turns .now) in
+    row-passes (row-5 y) (row-6 y ∷ []) (c .before .before .before .first-bad-turn .ensures) (c .before .before .before .before .turn-count .ensures) (c .before .before .if1 .left)
+    (row-passes (row-6 y) [] (c .before .first-second-turn .ensures) (c .before .before .before .before .turn-count .ensures) (c .if2 .left) refl)
+
+pub check-turns-spec : {M : Type 1} → statement M
+check-turns-spec =
+    tie.close
+    (tie.spec
+    turn-count-requires
+    first-bad-turn-requires
+    returns
+    first-second-turn-requires
+    returns-2
+    returns-3)
