@@ -2,14 +2,14 @@
 -- Assumes nothing.
 use mathlib.Core.Path.{_≡_, refl, sym, _∙_}
 use mathlib.Core.Logic.{_≢_}
-use mathlib.Core.Bool.{Bool, true, not, cond, _||_}
+use mathlib.Core.Bool.{true, not, cond, _||_}
 use mathlib.Core.List.{List}
 use Prim.Native.Nat.{ℕ, _+_, _≤_, _<_}
 use native.Mathlib.Omega.{arith}
 use native.Mathlib.Decide.{ℕ-discrete, decLe}
 use borrow.Author.Tests.{eq-eqb, ne-eqb}
 use lib.Dec.{T, eqb, ltb}
-use lib.ListN.{length, getD, set, length-set, replicate, length-replicate, getD-replicate}
+use lib.ListN.{length, getD, length-set, replicate, length-replicate, getD-replicate}
 use lib.Seq.{getD-set-same, getD-set-other}
 use Rattle.rules.specs.Ranges.{between, first-of}
 use Rattle.rules.specs.Plan.{plan-of, of-sections, section-count, end-A, end-B, touches}

@@ -1,7 +1,7 @@
 -- What is known of a plan where some of its checks have passed.
 -- Assumes nothing.
-use mathlib.Core.Path.{_≡_, sym, _∙_}
-use mathlib.Core.Logic.{_≢_, _⊎_, inl, inr, ⊎-elim}
+use mathlib.Core.Path.{_≡_}
+use mathlib.Core.Logic.{_⊎_, ⊎-elim}
 use mathlib.Core.Bool.{Bool, true, false, not, cond, _&&_}
 use mathlib.Core.List.{List, []}
 use Prim.Native.Nat.{ℕ, _≤_, _<_}
@@ -11,12 +11,12 @@ use borrow.Author.Tests.{not-false}
 use lib.Dec.{T}
 use Rattle.rules.specs.Plan.{Plan, plan-of, of-sections, section-count, turn-count, end-A, end-B, touches, turn-section, turn-point}
 use Rattle.rules.specs.Refusals.{verdict, passed}
-use Rattle.rules.specs.PlanCheck.{tables-good, ground-good, stock-good, section-bad, degree, degree-bad, turn-bad, plan-checks}
+use Rattle.rules.specs.PlanCheck.{tables-good, ground-good, stock-good, section-bad, degree, turn-bad, plan-checks}
 use Rattle.rules.proofs.Tests.{tests, says-true}
 use Rattle.rules.proofs.Verdicts.{Passed, passes}
 use Rattle.plan.specs.Ends.{Joins, Joined, AtMostThree}
 use Rattle.plan.specs.Turns.{Turned, connecting-pair, share-point}
-use Rattle.plan.proofs.Counting.{Counted, count-reaches}
+use Rattle.plan.proofs.Counting.{count-reaches}
 use Rattle.plan.proofs.Looking.{Clear}
 use Rattle.plan.proofs.Touching.{touch-cases}
 
@@ -58,3 +58,37 @@ turned-known {ss} {ts} joined l c = record { few = l; each = λ t h. at t (c .be
         let pair = simp tests at (first (connecting-pair (plan-of 0 ss ts) s r) (share-point (plan-of 0 ss ts) s r) u) in
         let j = joined .each s (omega arith) in
         either (touches (plan-of 0 ss ts) r (end-A (plan-of 0 ss ts) s)) (end-A (plan-of 0 ss ts) s) (end-B (plan-of 0 ss ts) s) (j .a) (j .b)
+
+-- all of them
+module _ (y : Plan) (e : verdict (plan-checks y) ≡ passed) where
+  rows : Passed (plan-checks y)
+  rows = passes (plan-checks y) tt e
+
+  counts-good : (y .points ≤ 768) × (section-count y ≤ 1024) × (turn-count y ≤ 768)
+  counts-good = let h = simp tests at (rows .0 0 (omega arith)) in (omega arith, omega arith, omega arith)
+
+  pub plan-joined : Joined (y .sections)
+  plan-joined = joined-known {v = y .points} (counts-good .0) (counts-good .1) (record { below = rows .1 .0 })
+
+  pub plan-turned : Turned (y .sections) (y .turns)
+  plan-turned = turned-known plan-joined (counts-good .2) (record { below = rows .1 .1 .1 .1 .0 })
+
+  -- a number that is no point of the plan has no sections
+  no-sections : (p : ℕ) → y .points ≤ p → degree y p ≤ 3
+  no-sections p l = go (decLt 0 (degree y p))
+    where
+      beyond : (s : ℕ) → s < section-count y → T (touches y s p) → ⊥
+      beyond s h t =
+          let g = simp tests at (ground-of (y .points) (y .sections) s (rows .1 .0 s h)) in
+          ⊎-elim (λ z. omega arith) (λ z. omega arith) (touch-cases (y .sections) s p t)
+
+      go : Dec (0 < degree y p) → degree y p ≤ 3
+      go (yes d) = let r = count-reaches (λ s. touches y s p) (section-count y) 0 d in absurd (beyond (r .number) (r .low) (r .holds))
+      go (no d) = omega arith
+
+  pub plan-three : AtMostThree (y .sections)
+  plan-three = record { at = λ p h. go p (decLt p (y .points)) }
+    where
+      go : (p : ℕ) → Dec (p < y .points) → degree y p ≤ 3
+      go p (yes d) = let h = simp tests at (rows .1 .1 .1 .0 p d) in omega arith
+      go p (no d) = no-sections p (omega arith)

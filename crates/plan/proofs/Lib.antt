@@ -8,3 +8,4 @@ pub mod Nearby
 pub mod PointMarks
 pub mod Rows
 pub mod Known
+pub mod Unique

@@ -1,7 +1,7 @@
 -- The sections at each point, in three slots a point: how the table is filled, and what a slot holds.
 -- Assumes nothing.
-use mathlib.Core.Path.{_≡_, sym, ap, _∙_}
-use mathlib.Core.Logic.{_≢_, _⊎_, inl, inr, ⊎-elim}
+use mathlib.Core.Path.{_≡_, sym, _∙_}
+use mathlib.Core.Logic.{_≢_, _⊎_, inl, inr}
 use mathlib.Core.List.{List}
 use Prim.Native.Nat.{ℕ, _+_, _*_, _≤_, _<_}
 use native.Mathlib.Omega.{arith}
@@ -10,9 +10,8 @@ use lib.Dec.{T}
 use lib.ListN.{length, getD, set, length-set}
 use lib.Seq.{getD-set-same, getD-set-other}
 use Rattle.rules.specs.Plan.{of-sections, section-count, end-A, end-B, touches}
-use Rattle.rules.specs.PlanCheck.{degree}
-use Rattle.plan.specs.Ends.{Joins, Joined, AtMostThree, Degrees, Slots, degree-before, counted}
-use Rattle.plan.proofs.Counting.{count-passes, Counted, count-reaches}
+use Rattle.plan.specs.Ends.{Joined, AtMostThree, Slots, degree-before, counted}
+use Rattle.plan.proofs.Counting.{count-passes, count-reaches}
 use Rattle.plan.proofs.Touching.{touch-A, touch-B, touch-cases, touch-below}
 use Rattle.plan.proofs.Counts.{Counts, first-so-far, second-so-far}
 

@@ -2,8 +2,8 @@
 // anything of its caller.
 ghost use mathlib.Core.Path.{_≡_};
 ghost use mathlib.Core.List.{[]};
-ghost use Prim.Native.Nat.{_+_, _*_, _/_, _<_, _≤_};
-ghost use lib.ListN.{length, getD};
+ghost use Prim.Native.Nat.{_<_};
+ghost use lib.ListN.{getD};
 ghost use Rattle.rules.specs.Plan.{plan-of, of-sections, section-count, turn-count, field, turn-section};
 
 // A section's six numbers, in their order.

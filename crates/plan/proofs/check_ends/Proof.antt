@@ -1,6 +1,7 @@
 -- `check_ends` meets its contract: the verdict of rows 3 and 4, row by row, and then that of the rows of the turns.
 -- Assumes nothing.
 use mathlib.Core.Path.{refl, _∙_}
+use native.Mathlib.Omega.{arith}
 use borrow.Author.Needs.{needs}
 use lib.ListN.{drop}
 use Rattle.rules.specs.Plan.{plan-of}
@@ -21,29 +22,35 @@ section-count-requires c κs = search needs
 
 returns : tie.Need-returns
 returns c =
-    let y = plan-of (c .before .before .before .before .before .before .before .args .points) (c .before .before .before .before .before .before .before .args .sections .now) (c .before .before .before .before .before .before .before .args .turns .now) in
-    row-refuses (row-3 y) (drop 3 (plan-checks y)) (c .before .before .first-doubled .ensures) (c .before .section-count .ensures) (c .if1 .taken)
+    let y = plan-of (c .before .before .before .before .before .before .before .args .points) (c .before .before .before .before .before .before .before .args .sections .now) (c .before .before .before .before .before .before .before .args .turns .now) in (
+      row-refuses (row-3 y) (drop 3 (plan-checks y)) (c .before .before .first-doubled .ensures) (c .before .section-count .ensures) (c .if1 .taken),
+      λ e. omega arith,
+    )
 
 first-bad-degree-requires : tie.Need-first-bad-degree-requires
 first-bad-degree-requires c κs = search needs
 
 returns-2 : tie.Need-returns-2
 returns-2 c =
-    let y = plan-of (c .before .before .before .before .before .before .before .before .before .before .args .points) (c .before .before .before .before .before .before .before .before .before .before .args .sections .now) (c .before .before .before .before .before .before .before .before .before .before .args .turns .now) in
-    row-passes (row-3 y) (drop 3 (plan-checks y)) (c .before .before .before .before .before .first-doubled .ensures) (c .before .before .before .before .section-count .ensures) (c .before .before .before .if1 .left)
-    (row-refuses (row-4 y) (drop 4 (plan-checks y))
-    (c .before .first-bad-degree .ensures ∙ by-degrees (y .points) (y .turns) (c .before .before .before .before .before .before .before .degrees .ensures) (c .before .before .before .before .before .before .before .before .before .before .pre .0)) refl (c .if2 .taken))
+    let y = plan-of (c .before .before .before .before .before .before .before .before .before .before .args .points) (c .before .before .before .before .before .before .before .before .before .before .args .sections .now) (c .before .before .before .before .before .before .before .before .before .before .args .turns .now) in (
+      row-passes (row-3 y) (drop 3 (plan-checks y)) (c .before .before .before .before .before .first-doubled .ensures) (c .before .before .before .before .section-count .ensures) (c .before .before .before .if1 .left)
+          (row-refuses (row-4 y) (drop 4 (plan-checks y))
+          (c .before .first-bad-degree .ensures ∙ by-degrees (y .points) (y .turns) (c .before .before .before .before .before .before .before .degrees .ensures) (c .before .before .before .before .before .before .before .before .before .before .pre .0)) refl (c .if2 .taken)),
+      λ e. omega arith,
+    )
 
 check-turns-requires : tie.Need-check-turns-requires
 check-turns-requires c κs = search needs
 
 returns-3 : tie.Need-returns-3
 returns-3 c =
-    let y = plan-of (c .before .before .before .before .before .before .before .before .before .before .before .args .points) (c .before .before .before .before .before .before .before .before .before .before .before .args .sections .now) (c .before .before .before .before .before .before .before .before .before .before .before .args .turns .now) in
-    row-passes (row-3 y) (drop 3 (plan-checks y)) (c .before .before .before .before .before .before .first-doubled .ensures) (c .before .before .before .before .before .section-count .ensures) (c .before .before .before .before .if1 .left)
-    (row-passes (row-4 y) (drop 4 (plan-checks y))
-    (c .before .before .first-bad-degree .ensures ∙ by-degrees (y .points) (y .turns) (c .before .before .before .before .before .before .before .before .degrees .ensures) (c .before .before .before .before .before .before .before .before .before .before .before .pre .0)) refl (c .before .if2 .left)
-    (c .check-turns .ensures))
+    let y = plan-of (c .before .before .before .before .before .before .before .before .before .before .before .args .points) (c .before .before .before .before .before .before .before .before .before .before .before .args .sections .now) (c .before .before .before .before .before .before .before .before .before .before .before .args .turns .now) in (
+      row-passes (row-3 y) (drop 3 (plan-checks y)) (c .before .before .before .before .before .before .first-doubled .ensures) (c .before .before .before .before .before .section-count .ensures) (c .before .before .before .before .if1 .left)
+          (row-passes (row-4 y) (drop 4 (plan-checks y))
+          (c .before .before .first-bad-degree .ensures ∙ by-degrees (y .points) (y .turns) (c .before .before .before .before .before .before .before .before .degrees .ensures) (c .before .before .before .before .before .before .before .before .before .before .before .pre .0)) refl (c .before .if2 .left)
+          (c .check-turns .ensures .0)),
+      c .check-turns .ensures .1,
+    )
 
 pub check-ends-spec : {M : Type 1} → statement M
 check-ends-spec =

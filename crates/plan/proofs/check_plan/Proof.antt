@@ -1,6 +1,5 @@
 -- `check_plan` meets its contract: the verdict of rows 1 and 2, row by row, and then that of the rows below.
 -- Assumes nothing.
-use mathlib.Core.List.{[]}
 use native.Mathlib.Omega.{arith}
 use borrow.Author.Needs.{needs}
 use lib.ListN.{drop}
@@ -17,8 +16,10 @@ tables-good-requires c κs = search needs
 
 returns : tie.Need-returns
 returns c =
-    let y = plan-of (c .before .before .before .before .args .points) (c .before .before .before .before .args .sections .now) (c .before .before .before .before .args .turns .now) in
-    tables-refuse y (c .before .tables-good .ensures) (c .if1 .taken)
+    let y = plan-of (c .before .before .before .before .args .points) (c .before .before .before .before .args .sections .now) (c .before .before .before .before .args .turns .now) in (
+      tables-refuse y (c .before .tables-good .ensures) (c .if1 .taken),
+      λ e. omega arith,
+    )
 
 first-bad-section-requires : tie.Need-first-bad-section-requires
 first-bad-section-requires c κs =
@@ -32,9 +33,11 @@ section-count-requires c κs =
 
 returns-2 : tie.Need-returns-2
 returns-2 c =
-    let y = plan-of (c .before .before .before .before .before .before .before .args .points) (c .before .before .before .before .before .before .before .args .sections .now) (c .before .before .before .before .before .before .before .args .turns .now) in
-    tables-pass y (c .before .before .before .before .tables-good .ensures) (c .before .before .before .if1 .left)
-    (row-refuses (row-2 y) (drop 2 (plan-checks y)) (c .before .before .first-bad-section .ensures) (c .before .section-count .ensures) (c .if2 .taken))
+    let y = plan-of (c .before .before .before .before .before .before .before .args .points) (c .before .before .before .before .before .before .before .args .sections .now) (c .before .before .before .before .before .before .before .args .turns .now) in (
+      tables-pass y (c .before .before .before .before .tables-good .ensures) (c .before .before .before .if1 .left)
+          (row-refuses (row-2 y) (drop 2 (plan-checks y)) (c .before .before .first-bad-section .ensures) (c .before .section-count .ensures) (c .if2 .taken)),
+      λ e. omega arith,
+    )
 
 check-ends-requires : tie.Need-check-ends-requires
 check-ends-requires c κs =
@@ -47,10 +50,12 @@ check-ends-requires c κs =
 
 returns-3 : tie.Need-returns-3
 returns-3 c =
-    let y = plan-of (c .before .before .before .before .before .before .before .before .args .points) (c .before .before .before .before .before .before .before .before .args .sections .now) (c .before .before .before .before .before .before .before .before .args .turns .now) in
-    tables-pass y (c .before .before .before .before .before .tables-good .ensures) (c .before .before .before .before .if1 .left)
-    (row-passes (row-2 y) (drop 2 (plan-checks y)) (c .before .before .before .first-bad-section .ensures) (c .before .before .section-count .ensures) (c .before .if2 .left)
-    (c .check-ends .ensures))
+    let y = plan-of (c .before .before .before .before .before .before .before .before .args .points) (c .before .before .before .before .before .before .before .before .args .sections .now) (c .before .before .before .before .before .before .before .before .args .turns .now) in (
+      tables-pass y (c .before .before .before .before .before .tables-good .ensures) (c .before .before .before .before .if1 .left)
+          (row-passes (row-2 y) (drop 2 (plan-checks y)) (c .before .before .before .first-bad-section .ensures) (c .before .before .section-count .ensures) (c .before .if2 .left)
+          (c .check-ends .ensures .0)),
+      c .check-ends .ensures .1,
+    )
 
 pub check-plan-spec : {M : Type 1} → statement M
 check-plan-spec =

@@ -2,6 +2,7 @@
 -- Assumes nothing.
 use mathlib.Core.List.{[], _∷_}
 use mathlib.Core.Path.{refl}
+use native.Mathlib.Omega.{arith}
 use borrow.Author.Needs.{needs}
 use Rattle.rules.specs.Plan.{plan-of, turn-count}
 use Rattle.rules.specs.PlanCheck.{turn-bad}
@@ -19,8 +20,10 @@ first-bad-turn-requires c κs = search needs
 
 returns : tie.Need-returns
 returns c =
-    let y = plan-of 0 (c .before .before .before .before .before .args .sections .now) (c .before .before .before .before .before .args .turns .now) in
-    row-refuses (row-5 y) (row-6 y ∷ []) (c .before .first-bad-turn .ensures) (c .before .before .turn-count .ensures) (c .if1 .taken)
+    let y = plan-of 0 (c .before .before .before .before .before .args .sections .now) (c .before .before .before .before .before .args .turns .now) in (
+      row-refuses (row-5 y) (row-6 y ∷ []) (c .before .first-bad-turn .ensures) (c .before .before .turn-count .ensures) (c .if1 .taken),
+      λ e. omega arith,
+    )
 
 first-second-turn-requires : tie.Need-first-second-turn-requires
 first-second-turn-requires c κs =
@@ -30,15 +33,19 @@ first-second-turn-requires c κs =
 
 returns-2 : tie.Need-returns-2
 returns-2 c =
-    let y = plan-of 0 (c .before .before .before .before .before .before .before .args .sections .now) (c .before .before .before .before .before .before .before .args .turns .now) in
-    row-passes (row-5 y) (row-6 y ∷ []) (c .before .before .before .first-bad-turn .ensures) (c .before .before .before .before .turn-count .ensures) (c .before .before .if1 .left)
-    (row-refuses (row-6 y) [] (c .before .first-second-turn .ensures) (c .before .before .before .before .turn-count .ensures) (c .if2 .taken))
+    let y = plan-of 0 (c .before .before .before .before .before .before .before .args .sections .now) (c .before .before .before .before .before .before .before .args .turns .now) in (
+      row-passes (row-5 y) (row-6 y ∷ []) (c .before .before .before .first-bad-turn .ensures) (c .before .before .before .before .turn-count .ensures) (c .before .before .if1 .left)
+          (row-refuses (row-6 y) [] (c .before .first-second-turn .ensures) (c .before .before .before .before .turn-count .ensures) (c .if2 .taken)),
+      λ e. omega arith,
+    )
 
 returns-3 : tie.Need-returns-3
 returns-3 c =
-    let y = plan-of 0 (c .before .before .before .before .before .before .before .args .sections .now) (c .before .before .before .before .before .before .before .args .turns .now) in
-    row-passes (row-5 y) (row-6 y ∷ []) (c .before .before .before .first-bad-turn .ensures) (c .before .before .before .before .turn-count .ensures) (c .before .before .if1 .left)
-    (row-passes (row-6 y) [] (c .before .first-second-turn .ensures) (c .before .before .before .before .turn-count .ensures) (c .if2 .left) refl)
+    let y = plan-of 0 (c .before .before .before .before .before .before .before .args .sections .now) (c .before .before .before .before .before .before .before .args .turns .now) in (
+      row-passes (row-5 y) (row-6 y ∷ []) (c .before .before .before .first-bad-turn .ensures) (c .before .before .before .before .turn-count .ensures) (c .before .before .if1 .left)
+          (row-passes (row-6 y) [] (c .before .first-second-turn .ensures) (c .before .before .before .before .turn-count .ensures) (c .if2 .left) refl),
+      tt,
+    )
 
 pub check-turns-spec : {M : Type 1} → statement M
 check-turns-spec =

@@ -1,6 +1,6 @@
 -- `degree::at_most_three` meets its contract. The loop's invariant: no point before p has over three. The measure is what is left of the 768 points.
 -- Assumes nothing.
-use mathlib.Core.Bool.{true≢false, false≢true}
+use mathlib.Core.Bool.{false≢true}
 use mathlib.Core.Path.{refl}
 use Prim.Native.Nat.{ℕ, _-_, _≤_, _<_}
 use native.Mathlib.Omega.{arith}

@@ -1,6 +1,5 @@
 -- `slots::slot_at` meets its contract: the widened numbers are the numbers.
 -- Assumes nothing.
-use mathlib.Core.Path.{refl}
 use borrow.Author.Needs.{needs}
 use Rattle.plan.proofs.slots.slot_at.Statement.{statement}
 use Rattle.plan.proofs.slots.slot_at.Tie as tie
