@@ -19,16 +19,20 @@ use Rattle.rules.proofs.Ranges.{count-next, count-le}
 use Rattle.plan.specs.Ends.{Joins, Joined, AtMostThree, Degrees, degree-before, counted, degree-bad-by}
 use Rattle.plan.proofs.Looking.{first-same}
 
--- d counts the first k sections
-pub record Counts (ss d : List ℕ) (k : ℕ) : Type 0 where
+-- the loop has come to section k on its way to n, the number of sections, and d counts the sections before k
+pub record Counts (ss d : List ℕ) (n k : ℕ) : Type 0 where
+  pub joined : Joined ss
+  pub end : n ≡ section-count (of-sections ss)
+  pub within : k ≤ n
   pub long : length d ≡ 768
   pub at : (p : ℕ) → p < 768 → getD d p 0 ≡ degree-before ss p k
 
-pub counts-none : {ss : List ℕ} → Counts ss (replicate 768 0) 0
-counts-none = record { long = length-replicate {A = ℕ} 768 0; at = λ p h. getD-replicate {A = ℕ} 768 p 0 0 h }
+pub counts-none : {ss : List ℕ} {n : ℕ} → Joined ss → n ≡ section-count (of-sections ss) → Counts ss (replicate 768 0) n 0
+counts-none j e =
+    record { joined = j; end = e; within = omega arith; long = length-replicate {A = ℕ} 768 0; at = λ p h. getD-replicate {A = ℕ} 768 p 0 0 h }
 
-pub counts-all : {ss d : List ℕ} {k n : ℕ} → Counts ss d k → n ≡ section-count (of-sections ss) → k ≤ n → n ≤ k → Degrees ss d
-counts-all {ss} {d} {k} c e l g = let z : k ≡ section-count (of-sections ss) = omega arith in record { at = rw z at (c .at) }
+pub counts-all : {ss d : List ℕ} {n k : ℕ} → Counts ss d n k → n ≤ k → Degrees ss d
+counts-all {ss} {d} {n} {k} c g = let z : k ≡ section-count (of-sections ss) = omega (arith, c .end, c .within) in record { at = rw z at (c .at) }
 
 -- a table of degrees in which nothing is over three
 pub none-over : {ss d : List ℕ} → Degrees ss d → ((p : ℕ) → p < 768 → getD d p 0 ≤ 3) → AtMostThree ss
@@ -52,9 +56,9 @@ ends-once a b p n = go (ℕ-discrete a p) (ℕ-discrete b p)
     go (no d) (no e) = rw (ne-eqb a p d, ne-eqb b p e) (omega arith)
 
 -- One section more: x and y are its ends as they were read, d₁ and d₂ the table after each.
-module _ {ss d : List ℕ} {k : ℕ} (joined : Joined ss) (c : Counts ss d k) (l : k < section-count (of-sections ss)) where
+module _ {ss d : List ℕ} {n k : ℕ} (c : Counts ss d n k) (l : k < n) where
   k-joins : Joins ss k
-  k-joins = joined .each k l
+  k-joins = c .joined .each k (omega (arith, c .end))
 
   pub first-so-far : {x : ℕ} → x ≡ end-A (of-sections ss) k → (x < 768) × (getD d x 0 ≡ degree-before ss x k)
   first-so-far {x} i = let h : x < 768 = omega (arith, k-joins .a) in (h, c .at x h)
@@ -67,7 +71,7 @@ module _ {ss d : List ℕ} {k : ℕ} (joined : Joined ss) (c : Counts ss d k) (l
 
   -- so few sections that no count leaves its type
   fits : (p : ℕ) → degree-before ss p k < 4294967295
-  fits p = omega (arith, joined .few, count-le (λ r. touches (of-sections ss) r p) 0 k)
+  fits p = omega (arith, c .joined .few, c .end, count-le (λ r. touches (of-sections ss) r p) 0 k)
 
   pub first-fits : {x : ℕ} → x ≡ end-A (of-sections ss) k → (x < 768) × (getD d x 0 < 4294967295)
   first-fits {x} i = let h = first-so-far i in (h .0, omega (arith, fits x))
@@ -77,9 +81,15 @@ module _ {ss d : List ℕ} {k : ℕ} (joined : Joined ss) (c : Counts ss d k) (l
   second-fits {x} {y} i e j = let h = second-so-far i e j in (h .0, omega (arith, fits y))
 
   pub counts-more : {x y : ℕ} {d₁ d₂ : List ℕ} → x ≡ end-A (of-sections ss) k → d₁ ≡ counted d x → y ≡ end-B (of-sections ss) k → d₂ ≡ counted d₁ y
-      → Counts ss d₂ (k + 1)
+      → Counts ss d₂ n (k + 1)
   counts-more {x} {y} {d₁} {d₂} i e j f =
-      record { long = rw (f, e, length-set, length-set) (c .long); at = λ p h. rw (f, e, i, j) (both p h) }
+      record {
+        joined = c .joined;
+        end = c .end;
+        within = omega arith;
+        long = rw (f, e, length-set, length-set) (c .long);
+        at = λ p h. rw (f, e, i, j) (both p h);
+      }
     where
       both : (p : ℕ) → p < 768 → getD (counted (counted d (end-A (of-sections ss) k)) (end-B (of-sections ss) k)) p 0 ≡ degree-before ss p (k + 1)
       both p h =

@@ -20,6 +20,11 @@ use Rattle.plan.proofs.Counting.{count-reaches}
 use Rattle.plan.proofs.Looking.{Clear}
 use Rattle.plan.proofs.Touching.{touch-cases}
 
+-- of a rule in two halves that is not broken, the first
+first-half : (a b : Bool) → T (not (not (a && b))) → T a
+first-half true b t = tt
+first-half false b t = t
+
 -- number 1: r says that the tables are good
 pub sized : (v : ℕ) (ss ts : List ℕ) {r : Bool} → r ≡ tables-good (plan-of v ss ts) → not r ≡ false
     → (v ≤ 768) × (section-count (of-sections ss) ≤ 1024) × (turn-count (plan-of 0 ss ts) ≤ 768)
@@ -27,11 +32,7 @@ sized v ss ts {r} e t = let h = simp tests at (says-true (tables-good (plan-of v
 
 -- number 2
 ground-of : (v : ℕ) (ss : List ℕ) (s : ℕ) → T (not (section-bad (plan-of v ss []) s)) → T (ground-good (plan-of v ss []) s)
-ground-of v ss s t = both (ground-good (plan-of v ss []) s) (stock-good (plan-of v ss []) s) t
-  where
-    both : (a b : Bool) → T (not (not (a && b))) → T a
-    both true b u = tt
-    both false b u = u
+ground-of v ss s t = first-half (ground-good (plan-of v ss []) s) (stock-good (plan-of v ss []) s) t
 
 pub joined-known : {v : ℕ} {ss : List ℕ} → v ≤ 768 → section-count (of-sections ss) ≤ 1024 → Clear (section-bad (plan-of v ss [])) (section-count (of-sections ss)) → Joined ss
 joined-known {v} {ss} l m c = record { few = m; each = λ s h. at s (ground-of v ss s (c .below s h)) }
@@ -43,10 +44,6 @@ joined-known {v} {ss} l m c = record { few = m; each = λ s h. at s (ground-of v
 pub turned-known : {ss ts : List ℕ} → Joined ss → turn-count (plan-of 0 ss ts) ≤ 768 → Clear (turn-bad (plan-of 0 ss ts)) (turn-count (plan-of 0 ss ts)) → Turned ss ts
 turned-known {ss} {ts} joined l c = record { few = l; each = λ t h. at t (c .below t h) }
   where
-    first : (a b : Bool) → T (not (not (a && b))) → T a
-    first true b u = tt
-    first false b u = u
-
     either : (b : Bool) (x y : ℕ) → x < 768 → y < 768 → cond b x y < 768
     either true x y h g = h
     either false x y h g = g
@@ -55,7 +52,7 @@ turned-known {ss} {ts} joined l c = record { few = l; each = λ t h. at t (c .be
     at t u =
         let s = turn-section (plan-of 0 ss ts) t 0 in
         let r = turn-section (plan-of 0 ss ts) t 1 in
-        let pair = simp tests at (first (connecting-pair (plan-of 0 ss ts) s r) (share-point (plan-of 0 ss ts) s r) u) in
+        let pair = simp tests at (first-half (connecting-pair (plan-of 0 ss ts) s r) (share-point (plan-of 0 ss ts) s r) u) in
         let j = joined .each s (omega arith) in
         either (touches (plan-of 0 ss ts) r (end-A (plan-of 0 ss ts) s)) (end-A (plan-of 0 ss ts) s) (end-B (plan-of 0 ss ts) s) (j .a) (j .b)
 

@@ -1,3 +1,4 @@
+-- The laws that the proofs of this crate's functions share, and those that its callers' proofs cite.
 pub mod Branches
 pub mod Looking
 pub mod Counting

@@ -13,26 +13,37 @@ use Rattle.rules.proofs.Ranges.{some-T, T-some, Least, hit, past, least, first-
 pub record Clear (f : ℕ → Bool) (i : ℕ) : Type 0 where
   pub below : (h : ℕ) → h < i → T (not (f h))
 
-pub clear-none : {f : ℕ → Bool} → Clear f 0
-clear-none = record { below = λ h l. absurd (omega arith) }
+-- the loop has come to i on its way to n, which is m, and has found nothing
+pub record Sought (f : ℕ → Bool) (m n i : ℕ) : Type 0 where
+  pub end : n ≡ m
+  pub within : i ≤ n
+  pub clear : Clear f i
 
--- r is the value of the test at i, and n the number m at which the loop ends
-module _ {f : ℕ → Bool} {i : ℕ} {r : Bool} (c : Clear f i) (e : r ≡ f i) where
-  pub clear-next : r ≡ false → Clear f (i + 1)
-  clear-next n = record { below = one-more f (c .below) (says-false (f i) n e) }
+pub sought-none : {f : ℕ → Bool} {m n : ℕ} → n ≡ m → Sought f m n 0
+sought-none e = record { end = e; within = omega arith; clear = record { below = λ h l. absurd (omega arith) } }
 
-  pub some-found : {n : ℕ} → i < n → r ≡ true → true ≡ some-of f 0 n
-  some-found {n} l y = gives-true (T-some f 0 n i (omega arith) (omega arith) (says-true (f i) y e))
+-- a turn of the loop: r is the value of the test at i
+module _ {f : ℕ → Bool} {m n i : ℕ} {r : Bool} (s : Sought f m n i) (l : i < n) (e : r ≡ f i) where
+  pub sought-more : r ≡ false → Sought f m n (i + 1)
+  sought-more q =
+      record { end = s .end; within = omega arith; clear = record { below = one-more f (s .clear .below) (says-false (f i) q e) } }
 
-  pub found : {n m : ℕ} → n ≡ m → i < n → r ≡ true → i ≡ first-of f 0 m
-  found {n} {m} q l y = sym (first-is f m i (omega arith) (says-true (f i) y e) (c .below))
+  pub found : r ≡ true → i ≡ first-of f 0 m
+  found q = sym (first-is f m i (omega (arith, s .end)) (says-true (f i) q e) (s .clear .below))
 
-pub not-found : {f : ℕ → Bool} {i n m : ℕ} → Clear f i → n ≡ m → i ≤ n → n ≤ i → i ≡ first-of f 0 m
-not-found {f} {i} {n} {m} c q l g = let z : i ≡ m = omega arith in rw z (sym (first-past f m (rw z at (c .below))))
+  pub some-found : r ≡ true → true ≡ some-of f 0 m
+  some-found q = gives-true (T-some f 0 m i (omega arith) (omega (arith, s .end)) (says-true (f i) q e))
 
-pub none-found : {f : ℕ → Bool} {i n : ℕ} → Clear f i → i ≤ n → n ≤ i → false ≡ some-of f 0 n
-none-found {f} {i} {n} c l g =
-    gives-false (λ t. let w = some-T f 0 n t in clash (f (w .0)) (w .2) (c .below (w .0) (omega (arith, w .1))))
+-- the loop's end
+module _ {f : ℕ → Bool} {m n i : ℕ} (s : Sought f m n i) (g : n ≤ i) where
+  at-end : i ≡ m
+  at-end = omega (arith, s .end, s .within)
+
+  pub not-found : i ≡ first-of f 0 m
+  not-found = rw at-end (sym (first-past f m (rw at-end at (s .clear .below))))
+
+  pub none-found : false ≡ some-of f 0 m
+  none-found = gives-false (λ t. let w = some-T f 0 m t in clash (f (w .0)) (w .2) (s .clear .below (w .0) (omega (arith, w .1, at-end))))
 
 -- where the first number is past the end, the test fails at each; and tests that agree have the same first number
 pub all-clear : (f : ℕ → Bool) (m : ℕ) {k n : ℕ} → k ≡ first-of f 0 m → n ≡ m → n ≤ k → Clear f m

@@ -7,28 +7,32 @@ use Prim.Native.Nat.{ℕ, _+_, _*_, _≤_, _<_}
 use native.Mathlib.Omega.{arith}
 use native.Mathlib.Decide.{ℕ-discrete, decLt}
 use lib.Dec.{T}
-use lib.ListN.{length, getD, set, length-set}
+use lib.ListN.{length, getD, set, length-set, replicate, length-replicate}
 use lib.Seq.{getD-set-same, getD-set-other}
 use Rattle.rules.specs.Plan.{of-sections, section-count, end-A, end-B, touches}
 use Rattle.plan.specs.Ends.{Joined, AtMostThree, Slots, degree-before, counted}
 use Rattle.plan.proofs.Counting.{count-passes, count-reaches}
 use Rattle.plan.proofs.Touching.{touch-A, touch-B, touch-cases, touch-below}
-use Rattle.plan.proofs.Counts.{Counts, first-so-far, second-so-far}
+use Rattle.plan.proofs.Counts.{Counts, counts-none, counts-more, first-so-far, second-so-far}
 
 -- where section t stands at point p
 abbrev slot : List ℕ → ℕ → ℕ → ℕ
 slot ss p t = 3 * p + degree-before ss p t
 
--- each of the first k sections stands at both of its ends
-pub record Held (ss slots : List ℕ) (k : ℕ) : Type 0 where
+-- the loop has come to section k on its way to n: f says how full the points are, and each section before k stands at both
+-- of its ends
+pub record Held (ss slots f : List ℕ) (n k : ℕ) : Type 0 where
+  pub three : AtMostThree ss
+  pub counts : Counts ss f n k
   pub long : length slots ≡ 2304
   pub stands : (t p : ℕ) → t < k → T (touches (of-sections ss) t p) → getD slots (slot ss p t) 0 ≡ t
 
-pub held-none : {ss slots : List ℕ} → length slots ≡ 2304 → Held ss slots 0
-held-none l = record { long = l; stands = λ t p h u. absurd (omega arith) }
+pub held-none : {ss : List ℕ} {n : ℕ} → Joined ss → AtMostThree ss → n ≡ section-count (of-sections ss) → Held ss (replicate 2304 0) (replicate 768 0) n 0
+held-none j three e =
+    record { three = three; counts = counts-none j e; long = length-replicate {A = ℕ} 2304 0; stands = λ t p h u. absurd (omega arith) }
 
-pub held-all : {ss slots : List ℕ} {k n : ℕ} → Held ss slots k → n ≡ section-count (of-sections ss) → k ≤ n → n ≤ k → Slots ss slots
-held-all {ss} {slots} {k} h e l g = record { stands = λ s p u t. h .stands s p (omega arith) t }
+pub held-all : {ss slots f : List ℕ} {n k : ℕ} → Held ss slots f n k → n ≤ k → Slots ss slots
+held-all h g = record { stands = λ s p u t. h .stands s p (omega (arith, h .counts .end)) t }
 
 module _ {ss : List ℕ} (joined : Joined ss) (three : AtMostThree ss) where
   -- fewer than three sections come before a section at its end
@@ -44,49 +48,69 @@ module _ {ss : List ℕ} (joined : Joined ss) (three : AtMostThree ss) where
       go (yes d) = omega (arith, count-passes (λ r. touches (of-sections ss) r q) t k l (rw d at u), rw d at e)
       go (no d) = d (omega (arith, slot-low t p (omega arith) u, slot-low k q m v))
 
-  module _ {slots : List ℕ} {k : ℕ} (h : Held ss slots k) (l : k < section-count (of-sections ss)) where
-    -- section k put into the next slots of its ends x and y
-    both-placed : (x y : ℕ) → x ≡ end-A (of-sections ss) k → y ≡ end-B (of-sections ss) k → Held ss (set (set slots (slot ss x k) k) (slot ss y k) k) (k + 1)
-    both-placed x y i j = record { long = rw (length-set, length-set) (h .long); stands = λ t p u v. at t p v (decLt t k) u }
-      where
-        at-x : T (touches (of-sections ss) k x)
-        at-x = touch-A ss k x (sym i)
+-- one section more: x and y are its ends as they were read
+module _ {ss slots f : List ℕ} {n k x y : ℕ} (h : Held ss slots f n k) (l : k < n) (i : x ≡ end-A (of-sections ss) k) (j : y ≡ end-B (of-sections ss) k) where
+  in-table : k < section-count (of-sections ss)
+  in-table = omega (arith, h .counts .end)
 
-        at-y : T (touches (of-sections ss) k y)
-        at-y = touch-B ss k y (sym j)
+  low : (p : ℕ) → T (touches (of-sections ss) k p) → degree-before ss p k < 3
+  low p u = slot-low (h .counts .joined) (h .three) k p in-table u
 
-        inside : (p : ℕ) → T (touches (of-sections ss) k p) → slot ss p k < 2304
-        inside p u = omega (arith, slot-low k p l u, touch-below (joined .each k l) p u)
+  at-x : T (touches (of-sections ss) k x)
+  at-x = touch-A ss k x (sym i)
 
-        x-apart : slot ss x k ≢ slot ss y k
-        x-apart e = joined .each k l .apart (sym i ∙ omega (arith, slot-low k x l at-x, slot-low k y l at-y) ∙ j)
+  at-y : T (touches (of-sections ss) k y)
+  at-y = touch-B ss k y (sym j)
 
-        new : (p : ℕ) → (end-A (of-sections ss) k ≡ p) ⊎ (end-B (of-sections ss) k ≡ p) → getD (set (set slots (slot ss x k) k) (slot ss y k) k) (slot ss p k) 0 ≡ k
-        new p (inl e) =
-            rw (← e, ← i) (getD-set-other (set slots (slot ss x k) k) (slot ss y k) (slot ss x k) k 0 x-apart
-            ∙ getD-set-same slots (slot ss x k) k 0 (omega (arith, h .long, inside x at-x)))
-        new p (inr e) =
-            rw (← e, ← j) (getD-set-same (set slots (slot ss x k) k) (slot ss y k) k 0 (rw length-set (omega (arith, h .long, inside y at-y))))
+  pub first-room : (x < 768) × (getD f x 0 < 3)
+  first-room = let so = first-so-far (h .counts) l i in (so .0, omega (arith, low x at-x))
 
-        at : (t p : ℕ) → T (touches (of-sections ss) t p) → Dec (t < k) → t < k + 1 → getD (set (set slots (slot ss x k) k) (slot ss y k) k) (slot ss p t) 0 ≡ t
-        at t p v (yes d) u =
-            getD-set-other (set slots (slot ss x k) k) (slot ss y k) (slot ss p t) k 0 (earlier-apart t k p y d l v at-y)
-            ∙ getD-set-other slots (slot ss x k) (slot ss p t) k 0 (earlier-apart t k p x d l v at-x) ∙ h .stands t p d v
-        at t p v (no d) u = let z : t ≡ k = omega arith in rw z (new p (touch-cases ss k p (rw z at v)))
+  pub second-room : {f₁ : List ℕ} → f₁ ≡ counted f x → (y < 768) × (getD f₁ y 0 < 3)
+  second-room e = let so = second-so-far (h .counts) l i e j in (so .0, omega (arith, low y at-y))
 
-    -- the same, as the code does it: x and y are the ends as they were read, f, f₁ how full the points are
-    module _ {f : List ℕ} (c : Counts ss f k) where
-      pub first-room : {x : ℕ} → x ≡ end-A (of-sections ss) k → (x < 768) × (getD f x 0 < 3)
-      first-room {x} i = let so = first-so-far joined c l i in (so .0, omega (arith, slot-low k x l (touch-A ss k x (sym i))))
+  -- the table with section k in the next slots of x and y
+  placed : List ℕ
+  placed = set (set slots (slot ss x k) k) (slot ss y k) k
 
-      pub second-room : {x y : ℕ} {f₁ : List ℕ} → x ≡ end-A (of-sections ss) k → f₁ ≡ counted f x → y ≡ end-B (of-sections ss) k → (y < 768) × (getD f₁ y 0 < 3)
-      second-room {x} {y} i e j = let so = second-so-far joined c l i e j in (so .0, omega (arith, slot-low k y l (touch-B ss k y (sym j))))
+  x-y-apart : slot ss x k ≢ slot ss y k
+  x-y-apart e = h .counts .joined .each k in-table .apart (sym i ∙ omega (arith, low x at-x, low y at-y) ∙ j)
 
-      pub held-more : {x y : ℕ} {f₁ slots₁ slots₂ : List ℕ} → x ≡ end-A (of-sections ss) k → y ≡ end-B (of-sections ss) k → f₁ ≡ counted f x
-          → slots₁ ≡ set slots (3 * x + getD f x 0) k → slots₂ ≡ set slots₁ (3 * y + getD f₁ y 0) k → Held ss slots₂ (k + 1)
-      held-more {x} {y} i j e q r = rw (r, q, first-so-far joined c l i .1, second-so-far joined c l i e j .1) (both-placed x y i j)
+  inside : (p : ℕ) → T (touches (of-sections ss) k p) → slot ss p k < length slots
+  inside p u = omega (arith, h .long, low p u, touch-below (h .counts .joined .each k in-table) p u)
 
--- what a slot below the point's degree holds
+  new-stands : (p : ℕ) → (end-A (of-sections ss) k ≡ p) ⊎ (end-B (of-sections ss) k ≡ p) → getD placed (slot ss p k) 0 ≡ k
+  unfolding placed
+  new-stands p (inl e) =
+      rw (← e, ← i) (getD-set-other (set slots (slot ss x k) k) (slot ss y k) (slot ss x k) k 0 x-y-apart ∙ getD-set-same slots (slot ss x k) k 0 (inside x at-x))
+  new-stands p (inr e) = rw (← e, ← j) (getD-set-same (set slots (slot ss x k) k) (slot ss y k) k 0 (rw length-set (inside y at-y)))
+
+  old-stands : (t p : ℕ) → t < k → T (touches (of-sections ss) t p) → getD placed (slot ss p t) 0 ≡ t
+  unfolding placed
+  old-stands t p d u =
+      getD-set-other (set slots (slot ss x k) k) (slot ss y k) (slot ss p t) k 0 (earlier-apart (h .counts .joined) (h .three) t k p y d in-table u at-y)
+      ∙ getD-set-other slots (slot ss x k) (slot ss p t) k 0 (earlier-apart (h .counts .joined) (h .three) t k p x d in-table u at-x)
+      ∙ h .stands t p d u
+
+  pub held-more : {f₁ f₂ slots₁ slots₂ : List ℕ} → f₁ ≡ counted f x → slots₁ ≡ set slots (3 * x + getD f x 0) k → f₂ ≡ counted f₁ y
+      → slots₂ ≡ set slots₁ (3 * y + getD f₁ y 0) k → Held ss slots₂ f₂ n (k + 1)
+  unfolding placed
+  held-more {f₁} {f₂} {slots₁} {slots₂} e q g r =
+      record {
+        three = h .three;
+        counts = counts-more (h .counts) l i e j g;
+        long = rw (r, q, length-set, length-set) (h .long);
+        stands = λ t p u v. rw as-placed (at t p v (decLt t k) u);
+      }
+    where
+      as-placed : slots₂ ≡ placed
+      as-placed = rw (r, q, first-so-far (h .counts) l i .1, second-so-far (h .counts) l i e j .1)
+
+      at : (t p : ℕ) → T (touches (of-sections ss) t p) → Dec (t < k) → t < k + 1 → getD placed (slot ss p t) 0 ≡ t
+      at t p v (yes d) u = old-stands t p d v
+      at t p v (no d) u = let z : t ≡ k = omega arith in rw z (new-stands p (touch-cases ss k p (rw z at v)))
+
+-- what slot j of point p holds, where j is below the number of the first n sections at p; with all sections for n, that is
+-- the degree of p
 pub slot-holds : {ss slots : List ℕ} → Slots ss slots → (p n j : ℕ) → n ≤ section-count (of-sections ss) → j < degree-before ss p n
     → (s : ℕ) × (s < n) × T (touches (of-sections ss) s p) × (getD slots (3 * p + j) 0 ≡ s)
 slot-holds {ss} {slots} h p n j l u =

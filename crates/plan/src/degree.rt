@@ -13,7 +13,7 @@ use crate::read::section_number;
 use crate::read::wide;
 
 // One more at point p.
-pub fn count_up(table: &mut [u32; 768], p: u32)
+pub(crate) fn count_up(table: &mut [u32; 768], p: u32)
     requires { ⌜ (p < 768) × (getD (now table) p 0 < 4294967295) ⌝ }
     ensures { λ _. ⌜ now (table .exit) ≡ counted (now (table .entry)) p ⌝ }
 {
@@ -38,7 +38,7 @@ pub fn degrees(sections: &[u32]) -> [u32; 768]
 }
 
 // No point has over three sections.
-pub fn at_most_three(degrees: &[u32; 768]) -> bool
+pub(crate) fn at_most_three(degrees: &[u32; 768]) -> bool
     ensures { λ r. ⌜ (r ≡ true) ↔ ((p : ℕ) → p < 768 → getD (now (degrees .entry)) p 0 ≤ 3) ⌝ }
 {
     let mut p = 0;
@@ -64,7 +64,7 @@ fn degree_bad(degrees: &[u32; 768], p: u32) -> bool
 }
 
 // The first point that has no section or over three, or the number of points.
-pub fn first_bad_degree(points: u32, degrees: &[u32; 768]) -> u32
+pub(crate) fn first_bad_degree(points: u32, degrees: &[u32; 768]) -> u32
     requires { ⌜ points ≤ 768 ⌝ }
     ensures { λ r. ⌜ r ≡ first-of (degree-bad-by (now (degrees .entry))) 0 points ⌝ }
 {

@@ -4,7 +4,7 @@ ghost use mathlib.Core.Path.{_≡_};
 ghost use mathlib.Core.List.{[]};
 ghost use Prim.Native.Nat.{_<_};
 ghost use lib.ListN.{getD};
-ghost use Rattle.rules.specs.Plan.{plan-of, of-sections, section-count, turn-count, field, turn-section};
+ghost use Rattle.rules.specs.Plan.{plan-of, of-sections, section-count, turn-count, field, free-at, turn-section};
 
 // A section's six numbers, in their order.
 pub const END_A: u32 = 0;
@@ -41,6 +41,13 @@ pub fn section_number(sections: &[u32], s: u32, k: u32) -> u32
     ensures { λ r. ⌜ r ≡ field (of-sections (now (sections .entry))) s k ⌝ }
 {
     number_at(sections, 6 * wide(s) + wide(k))
+}
+
+// The free length of section s from its end e (0 = A, 1 = B).
+pub fn free_at(sections: &[u32], s: u32, e: u32) -> u32
+    ensures { λ r. ⌜ r ≡ free-at (of-sections (now (sections .entry))) s e ⌝ }
+{
+    number_at(sections, 6 * wide(s) + (4 + wide(e)))
 }
 
 // Number k of turn t: its first section, or its second.

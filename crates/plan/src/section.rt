@@ -5,7 +5,6 @@ use crate::read::END_A;
 use crate::read::END_B;
 use crate::read::FREE_A;
 use crate::read::FREE_B;
-use crate::read::KIND;
 use crate::read::LENGTH;
 use crate::read::section_number;
 

@@ -58,7 +58,7 @@ fn turn_bad(sections: &[u32], turns: &[u32], t: u32) -> bool
 }
 
 // The first turn that breaks its rule, or the number of turns.
-pub fn first_bad_turn(sections: &[u32], turns: &[u32]) -> u32
+pub(crate) fn first_bad_turn(sections: &[u32], turns: &[u32]) -> u32
     requires { ⌜ turn-count (plan-of 0 (now sections) (now turns)) < 4294967296 ⌝ }
     ensures { λ r. ⌜ r ≡ first-of (turn-bad (plan-of 0 (now (sections .entry)) (now (turns .entry)))) 0 (turn-count (plan-of 0 (now (sections .entry)) (now (turns .entry)))) ⌝ }
 {

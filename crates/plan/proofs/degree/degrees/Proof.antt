@@ -1,13 +1,14 @@
--- `degree::degrees` meets its contract. The loop's invariant: the table counts the sections before s. The measure is what is left of the sections.
+-- `degree::degrees` meets its contract. The loop's invariant: the table counts the sections before s. The measure is what is left of
+-- the sections.
 -- Assumes nothing.
-use Prim.Native.Nat.{_-_, _≤_}
+use Prim.Native.Nat.{_-_}
 use native.Mathlib.Omega.{arith}
 use Rattle.plan.proofs.Counts.{Counts, counts-none, counts-all, first-fits, second-fits, counts-more}
 use Rattle.plan.proofs.degree.degrees.Statement.{statement}
 use Rattle.plan.proofs.degree.degrees.Tie as tie
 
 abbrev Inv-loop : tie.InvT-loop
-Inv-loop sections count table₀ s₀ table s = (s ≤ count) × Counts sections table s
+Inv-loop sections count table₀ s₀ table s = Counts sections table count s
 
 abbrev μ-loop : tie.MeasureT-loop
 μ-loop sections count table₀ s₀ table s = count - s
@@ -16,16 +17,13 @@ section-count-requires : tie.Need-section-count-requires Inv-loop μ-loop
 section-count-requires c κs = omega (arith, c .before .pre .few)
 
 loop-holds : tie.Need-loop-holds Inv-loop μ-loop
-loop-holds c = (omega arith, counts-none)
+loop-holds c = counts-none (c .before .before .pre) (c .section-count .ensures)
 
 section-number-requires : tie.Need-section-number-requires Inv-loop μ-loop
 section-number-requires c κs = tt
 
 count-up-requires : tie.Need-count-up-requires Inv-loop μ-loop
-count-up-requires c κs =
-    let head = c .before .before .before in
-    let joined = head .before .before .before .pre in
-    first-fits joined (head .loop .inv .1) (omega arith) (c .section-number .ensures)
+count-up-requires c κs = first-fits (c .before .before .before .loop .inv) (c .before .before .loop-test .taken) (c .section-number .ensures)
 
 section-number-requires-2 : tie.Need-section-number-requires-2 Inv-loop μ-loop
 section-number-requires-2 c κs = tt
@@ -33,8 +31,7 @@ section-number-requires-2 c κs = tt
 count-up-requires-2 : tie.Need-count-up-requires-2 Inv-loop μ-loop
 count-up-requires-2 c κs =
     let head = c .before .before .before .before .before .before in
-    let joined = head .before .before .before .pre in
-    second-fits joined (head .loop .inv .1) (omega arith) (c .before .before .before .section-number .ensures) (c .before .before .count-up .ensures) (c .section-number2 .ensures)
+    second-fits (head .loop .inv) (c .before .before .before .before .before .loop-test .taken) (c .before .before .before .section-number .ensures) (c .before .before .count-up .ensures) (c .section-number2 .ensures)
 
 add-s : tie.Need-add-s Inv-loop μ-loop
 add-s c = omega arith
@@ -45,14 +42,11 @@ loop-less c = omega arith
 loop-again : tie.Need-loop-again Inv-loop μ-loop
 loop-again c =
     let head = c .before .before .before .before .before .before .before in
-    let joined = head .before .before .before .pre in (
-      omega arith,
-      counts-more joined (head .loop .inv .1) (omega arith) (c .before .before .before .before .section-number .ensures) (c .before .before .before .count-up .ensures) (c .before .section-number2 .ensures)
-          (c .count-up2 .ensures),
-    )
+    counts-more (head .loop .inv) (c .before .before .before .before .before .before .loop-test .taken) (c .before .before .before .before .section-number .ensures) (c .before .before .before .count-up .ensures)
+    (c .before .section-number2 .ensures) (c .count-up2 .ensures)
 
 returns : tie.Need-returns Inv-loop μ-loop
-returns c = counts-all (c .before .loop .inv .1) (c .before .before .section-count .ensures) (c .before .loop .inv .0) (c .loop-test .left)
+returns c = counts-all (c .before .loop .inv) (c .loop-test .left)
 
 pub degrees-spec : {M : Type 1} → statement M
 degrees-spec =

@@ -1,26 +1,28 @@
--- `doubled::doubled_anywhere` meets its contract. The loop's invariant: no section before r joins the same two points. The measure is what is left of the earlier sections.
+-- `doubled::doubled_anywhere` meets its contract. The loop's invariant: no section before r joins the same two points as s. The
+-- measure is what is left of the earlier sections.
 -- Assumes nothing.
-use Prim.Native.Nat.{_-_, _≤_}
+use mathlib.Core.Path.{refl}
+use Prim.Native.Nat.{_-_}
 use native.Mathlib.Omega.{arith}
 use Rattle.rules.specs.Plan.{of-sections, same-ends}
-use Rattle.plan.proofs.Looking.{Clear, clear-none, clear-next, some-found, none-found}
+use Rattle.plan.proofs.Looking.{Sought, sought-none, sought-more, some-found, none-found}
 use Rattle.plan.proofs.doubled.doubled_anywhere.Statement.{statement}
 use Rattle.plan.proofs.doubled.doubled_anywhere.Tie as tie
 
 abbrev Inv-loop : tie.InvT-loop
-Inv-loop sections s r₀ r = (r ≤ s) × Clear (same-ends (of-sections sections) s) r
+Inv-loop sections s r₀ r = Sought (same-ends (of-sections sections) s) s s r
 
 abbrev μ-loop : tie.MeasureT-loop
 μ-loop sections s r₀ r = s - r
 
 loop-holds : tie.Need-loop-holds Inv-loop μ-loop
-loop-holds c = (omega arith, clear-none)
+loop-holds c = sought-none refl
 
 same-ends-requires : tie.Need-same-ends-requires Inv-loop μ-loop
 same-ends-requires c κs = tt
 
 returns : tie.Need-returns Inv-loop μ-loop
-returns c = some-found (c .before .before .before .loop .inv .1) (c .before .same-ends .ensures) (c .before .before .loop-test .taken) (c .if1 .taken)
+returns c = some-found (c .before .before .before .loop .inv) (c .before .before .loop-test .taken) (c .before .same-ends .ensures) (c .if1 .taken)
 
 add-r : tie.Need-add-r Inv-loop μ-loop
 add-r c = omega arith
@@ -29,10 +31,10 @@ loop-less : tie.Need-loop-less Inv-loop μ-loop
 loop-less c = omega arith
 
 loop-again : tie.Need-loop-again Inv-loop μ-loop
-loop-again c = (omega arith, clear-next (c .before .before .before .loop .inv .1) (c .before .same-ends .ensures) (c .if1 .left))
+loop-again c = sought-more (c .before .before .before .loop .inv) (c .before .before .loop-test .taken) (c .before .same-ends .ensures) (c .if1 .left)
 
 returns-2 : tie.Need-returns-2 Inv-loop μ-loop
-returns-2 c = none-found (c .before .loop .inv .1) (c .before .loop .inv .0) (c .loop-test .left)
+returns-2 c = none-found (c .before .loop .inv) (c .loop-test .left)
 
 pub doubled-anywhere-spec : {M : Type 1} → statement M
 doubled-anywhere-spec =

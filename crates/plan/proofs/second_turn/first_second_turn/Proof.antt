@@ -2,17 +2,15 @@
 -- mark stands at the point of each of them. The measure is what is left of the turns.
 -- Assumes nothing.
 use mathlib.Core.Path.{_∙_}
-use Prim.Native.Nat.{_-_, _≤_}
+use Prim.Native.Nat.{_-_}
 use native.Mathlib.Omega.{arith}
-use Rattle.rules.specs.Plan.{plan-of}
-use Rattle.rules.specs.PlanCheck.{second-turn}
-use Rattle.plan.proofs.Looking.{Clear, clear-none, clear-next, found, not-found}
-use Rattle.plan.proofs.PointMarks.{Marked, marked-none, marks-inside, mark-says, marked-more}
+use Rattle.plan.proofs.Looking.{not-found}
+use Rattle.plan.proofs.PointMarks.{Marked, marked-none, marks-inside, second-found, marked-more}
 use Rattle.plan.proofs.second_turn.first_second_turn.Statement.{statement}
 use Rattle.plan.proofs.second_turn.first_second_turn.Tie as tie
 
 abbrev Inv-loop : tie.InvT-loop
-Inv-loop sections turns count marks₀ t₀ marks t = (t ≤ count) × Clear (second-turn (plan-of 0 sections turns)) t × Marked sections turns marks t
+Inv-loop sections turns count marks₀ t₀ marks t = Marked sections turns marks count t
 
 abbrev μ-loop : tie.MeasureT-loop
 μ-loop sections turns count marks₀ t₀ marks t = count - t
@@ -21,7 +19,7 @@ turn-count-requires : tie.Need-turn-count-requires Inv-loop μ-loop
 turn-count-requires c κs = omega (arith, c .before .before .pre .few)
 
 loop-holds : tie.Need-loop-holds Inv-loop μ-loop
-loop-holds c = (omega arith, clear-none, marked-none)
+loop-holds c = marked-none (c .before .before .before .pre) (c .turn-count .ensures)
 
 turn-point-requires : tie.Need-turn-point-requires Inv-loop μ-loop
 turn-point-requires c κs = tt
@@ -30,16 +28,13 @@ wide-requires : tie.Need-wide-requires Inv-loop μ-loop
 wide-requires c κs = tt
 
 array-read-if1 : tie.Need-array-read-if1 Inv-loop μ-loop
-array-read-if1 c = marks-inside (c .before .before .before .before .before .before .before .pre) (c .before .before .before .loop .inv .2) (omega arith) (c .wide .ensures .0 ∙ c .before .turn-point .ensures)
+array-read-if1 c = marks-inside (c .before .before .before .loop .inv) (c .before .before .loop-test .taken) (c .wide .ensures .0 ∙ c .before .turn-point .ensures)
 
 returns : tie.Need-returns Inv-loop μ-loop
-returns c =
-    found (c .before .before .before .before .loop .inv .1)
-    (mark-says (c .before .before .before .before .before .before .before .before .pre) (c .before .before .before .before .loop .inv .2) (omega arith) (c .before .wide .ensures .0 ∙ c .before .before .turn-point .ensures))
-    (c .before .before .before .before .before .turn-count .ensures) (c .before .before .before .loop-test .taken) (c .if1 .taken)
+returns c = second-found (c .before .before .before .before .loop .inv) (c .before .before .before .loop-test .taken) (c .before .wide .ensures .0 ∙ c .before .before .turn-point .ensures) (c .if1 .taken)
 
 array-write-marks : tie.Need-array-write-marks Inv-loop μ-loop
-array-write-marks c = marks-inside (c .before .before .before .before .before .before .before .before .pre) (c .before .before .before .before .loop .inv .2) (omega arith) (c .before .wide .ensures .0 ∙ c .before .before .turn-point .ensures)
+array-write-marks c = marks-inside (c .before .before .before .before .loop .inv) (c .before .before .before .loop-test .taken) (c .before .wide .ensures .0 ∙ c .before .before .turn-point .ensures)
 
 add-t : tie.Need-add-t Inv-loop μ-loop
 add-t c = omega arith
@@ -48,16 +43,10 @@ loop-less : tie.Need-loop-less Inv-loop μ-loop
 loop-less c = omega arith
 
 loop-again : tie.Need-loop-again Inv-loop μ-loop
-loop-again c = (
-  omega arith,
-  clear-next (c .before .before .before .before .loop .inv .1)
-      (mark-says (c .before .before .before .before .before .before .before .before .pre) (c .before .before .before .before .loop .inv .2) (omega arith) (c .before .wide .ensures .0 ∙ c .before .before .turn-point .ensures))
-      (c .if1 .left),
-  marked-more (c .before .before .before .before .before .before .before .before .pre) (c .before .before .before .before .loop .inv .2) (omega arith) (c .before .wide .ensures .0 ∙ c .before .before .turn-point .ensures),
-)
+loop-again c = marked-more (c .before .before .before .before .loop .inv) (c .before .before .before .loop-test .taken) (c .before .wide .ensures .0 ∙ c .before .before .turn-point .ensures) (c .if1 .left)
 
 returns-2 : tie.Need-returns-2 Inv-loop μ-loop
-returns-2 c = not-found (c .before .loop .inv .1) (c .before .before .turn-count .ensures) (c .before .loop .inv .0) (c .loop-test .left)
+returns-2 c = not-found (c .before .loop .inv .sought) (c .loop-test .left)
 
 pub first-second-turn-spec : {M : Type 1} → statement M
 first-second-turn-spec =
