@@ -4,30 +4,33 @@ use mathlib.Core.Path.{_≡_}
 use Prim.Native.Nat.{_≤_}
 use native.Mathlib.Omega.{arith}
 use borrow.Author.Needs.{needs}
-use lib.ListN.{drop}
 use Rattle.rules.specs.Plan.{Plan, plan-of, section-count, turn-count}
-use Rattle.rules.specs.PlanCheck.{plan-checks, section-bad}
-use Rattle.rules.specs.Refusals.{Verdict, verdict}
+use Rattle.rules.specs.PlanCheck.{section-bad}
+use Rattle.rules.specs.Refusals.{Verdict}
 use Rattle.plan.proofs.Known.{sized, joined-known}
 use Rattle.plan.proofs.Looking.{all-clear}
-use Rattle.plan.proofs.Rows.{row-2, row-refuses, row-passes, tables-refuse, tables-pass}
+use Rattle.plan.proofs.Rows.{verdict-past, refused-1, past-1, refused-2, past-2}
 use Rattle.plan.proofs.check_plan.Statement.{statement}
 use Rattle.plan.proofs.check_plan.Tie as tie
 
-abbrev plan : tie.Start → Plan
-plan s = plan-of (s .args .points) (s .args .sections .now) (s .args .turns .now)
+-- the plan, seen from where its tables have been looked at
+abbrev plan : tie.After-tables-good → Plan
+plan c = plan-of (c .before .before .before .args .points) (c .before .before .before .args .sections .now) (c .before .before .before .args .turns .now)
 
-past-1 : (c : tie.Else1) {v : Verdict} → v ≡ verdict (drop 1 (plan-checks (plan (c .before .before .before .before)))) → v ≡ verdict (plan-checks (plan (c .before .before .before .before)))
-past-1 c = tables-pass (plan (c .before .before .before .before)) (c .before .tables-good .ensures) (c .if1 .left)
+-- the tables are good
+tables-pass : (c : tie.Else1) {v : Verdict} → v ≡ verdict-past (plan (c .before)) 1 → v ≡ verdict-past (plan (c .before)) 0
+tables-pass c = past-1 (plan (c .before)) (c .before .tables-good .ensures) (c .if1 .left)
 
-sizes : (c : tie.Else1) → (c .before .before .before .before .args .points ≤ 768) × (section-count (plan (c .before .before .before .before)) ≤ 1024) × (turn-count (plan (c .before .before .before .before)) ≤ 768)
-sizes c = sized (c .before .before .before .before .args .points) (c .before .before .before .before .args .sections .now) (c .before .before .before .before .args .turns .now) (c .before .tables-good .ensures) (c .if1 .left)
+sizes : (c : tie.Else1) → (plan (c .before) .points ≤ 768) × (section-count (plan (c .before)) ≤ 1024) × (turn-count (plan (c .before)) ≤ 768)
+sizes c =
+    let y = plan (c .before) in
+    sized (y .points) (y .sections) (y .turns) (c .before .tables-good .ensures) (c .if1 .left)
 
 tables-good-requires : tie.Need-tables-good-requires
 tables-good-requires c κs = search needs
 
 returns : tie.Need-returns
-returns c = (tables-refuse (plan (c .before .before .before .before)) (c .before .tables-good .ensures) (c .if1 .taken), λ e. omega arith)
+returns c = (refused-1 (plan (c .before)) (c .before .tables-good .ensures) (c .if1 .taken), λ e. omega arith)
 
 first-bad-section-requires : tie.Need-first-bad-section-requires
 first-bad-section-requires c κs = let size = sizes c in omega arith
@@ -36,19 +39,24 @@ section-count-requires : tie.Need-section-count-requires
 section-count-requires c κs = let size = sizes (c .before) in omega arith
 
 returns-2 : tie.Need-returns-2
-returns-2 c = (past-1 (c .before .before .before) (row-refuses (row-2 (plan (c .before .before .before .before .before .before .before))) (drop 2 (plan-checks (plan (c .before .before .before .before .before .before .before)))) (c .before .before .first-bad-section .ensures) (c .before .section-count .ensures) (c .if2 .taken)), λ e. omega arith)
+returns-2 c = (
+  tables-pass (c .before .before .before) (refused-2 (plan (c .before .before .before .before)) (c .before .before .first-bad-section .ensures) (c .before .section-count .ensures) (c .if2 .taken)),
+  λ e. omega arith,
+)
 
 check-ends-requires : tie.Need-check-ends-requires
 check-ends-requires c κs =
     let size = sizes (c .before .before .before) in
-    let clear = all-clear (section-bad (plan (c .before .before .before .before .before .before .before))) (section-count (plan (c .before .before .before .before .before .before .before))) (c .before .before .first-bad-section .ensures) (c .before .section-count .ensures) (c .if2 .left) in
-    (size .0, joined-known (size .0) (size .1) clear, size .2)
+    let y = plan (c .before .before .before .before) in (
+      size .0,
+      joined-known (size .0) (size .1) (all-clear (section-bad y) (section-count y) (c .before .before .first-bad-section .ensures) (c .before .section-count .ensures) (c .if2 .left)),
+      size .2,
+    )
 
 returns-3 : tie.Need-returns-3
 returns-3 c = (
-  past-1 (c .before .before .before .before)
-      (row-passes (row-2 (plan (c .before .before .before .before .before .before .before .before))) (drop 2 (plan-checks (plan (c .before .before .before .before .before .before .before .before)))) (c .before .before .before .first-bad-section .ensures) (c .before .before .section-count .ensures) (c .before .if2 .left)
-      (c .check-ends .ensures .0)),
+  tables-pass (c .before .before .before .before)
+      (past-2 (plan (c .before .before .before .before .before)) (c .before .before .before .first-bad-section .ensures) (c .before .before .section-count .ensures) (c .before .if2 .left) (c .check-ends .ensures .0)),
   c .check-ends .ensures .1,
 )
 

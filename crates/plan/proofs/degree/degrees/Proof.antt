@@ -30,8 +30,9 @@ section-number-requires-2 c κs = tt
 
 count-up-requires-2 : tie.Need-count-up-requires-2 Inv-loop μ-loop
 count-up-requires-2 c κs =
-    let head = c .before .before .before .before .before .before in
-    second-fits (head .loop .inv) (c .before .before .before .before .before .loop-test .taken) (c .before .before .before .section-number .ensures) (c .before .before .count-up .ensures) (c .section-number2 .ensures)
+    let first = c .before .before .before in
+    second-fits (first .before .before .before .loop .inv) (first .before .before .loop-test .taken) (first .section-number .ensures)
+    (c .before .before .count-up .ensures) (c .section-number2 .ensures)
 
 add-s : tie.Need-add-s Inv-loop μ-loop
 add-s c = omega arith
@@ -41,9 +42,9 @@ loop-less c = omega arith
 
 loop-again : tie.Need-loop-again Inv-loop μ-loop
 loop-again c =
-    let head = c .before .before .before .before .before .before .before in
-    counts-more (head .loop .inv) (c .before .before .before .before .before .before .loop-test .taken) (c .before .before .before .before .section-number .ensures) (c .before .before .before .count-up .ensures)
-    (c .before .section-number2 .ensures) (c .count-up2 .ensures)
+    let first = c .before .before .before .before in
+    counts-more (first .before .before .before .loop .inv) (first .before .before .loop-test .taken) (first .section-number .ensures)
+    (c .before .before .before .count-up .ensures) (c .before .section-number2 .ensures) (c .count-up2 .ensures)
 
 returns : tie.Need-returns Inv-loop μ-loop
 returns c = counts-all (c .before .loop .inv) (c .loop-test .left)

@@ -29,7 +29,9 @@ same-ends-requires : tie.Need-same-ends-requires Inv-loop μ-loop
 same-ends-requires c κs = tt
 
 returns-2 : tie.Need-returns-2 Inv-loop μ-loop
-returns-2 c = twin-nearby (c .before .before .before .before .loop .inv) (c .before .before .before .slot-at .ensures) (c .before .before .if1 .left) (c .before .same-ends .ensures) (c .if2 .taken)
+returns-2 c =
+    let slot = c .before .before .before in
+    twin-nearby (slot .before .loop .inv) (slot .slot-at .ensures) (c .before .before .if1 .left) (c .before .same-ends .ensures) (c .if2 .taken)
 
 add-j : tie.Need-add-j Inv-loop μ-loop
 add-j c = let h = slot-inside (c .before .before .before .before .loop .inv) in omega arith
@@ -38,7 +40,9 @@ loop-less : tie.Need-loop-less Inv-loop μ-loop
 loop-less c = let h = before-own (c .before .before .before .before .loop .inv) (c .before .before .before .slot-at .ensures) (c .before .before .if1 .left) in omega arith
 
 loop-again : tie.Need-loop-again Inv-loop μ-loop
-loop-again c = looked-more (c .before .before .before .before .loop .inv) (c .before .before .before .slot-at .ensures) (c .before .before .if1 .left) (c .before .same-ends .ensures) (c .if2 .left)
+loop-again c =
+    let slot = c .before .before .before in
+    looked-more (slot .before .loop .inv) (slot .slot-at .ensures) (c .before .before .if1 .left) (c .before .same-ends .ensures) (c .if2 .left)
 
 pub doubled-nearby-spec : {M : Type 1} → statement M
 doubled-nearby-spec =

@@ -31,10 +31,14 @@ array-read-if1 : tie.Need-array-read-if1 Inv-loop μ-loop
 array-read-if1 c = marks-inside (c .before .before .before .loop .inv) (c .before .before .loop-test .taken) (c .wide .ensures .0 ∙ c .before .turn-point .ensures)
 
 returns : tie.Need-returns Inv-loop μ-loop
-returns c = second-found (c .before .before .before .before .loop .inv) (c .before .before .before .loop-test .taken) (c .before .wide .ensures .0 ∙ c .before .before .turn-point .ensures) (c .if1 .taken)
+returns c =
+    let turn = c .before in
+    second-found (turn .before .before .before .loop .inv) (turn .before .before .loop-test .taken) (turn .wide .ensures .0 ∙ turn .before .turn-point .ensures) (c .if1 .taken)
 
 array-write-marks : tie.Need-array-write-marks Inv-loop μ-loop
-array-write-marks c = marks-inside (c .before .before .before .before .loop .inv) (c .before .before .before .loop-test .taken) (c .before .wide .ensures .0 ∙ c .before .before .turn-point .ensures)
+array-write-marks c =
+    let turn = c .before in
+    marks-inside (turn .before .before .before .loop .inv) (turn .before .before .loop-test .taken) (turn .wide .ensures .0 ∙ turn .before .turn-point .ensures)
 
 add-t : tie.Need-add-t Inv-loop μ-loop
 add-t c = omega arith
@@ -43,7 +47,9 @@ loop-less : tie.Need-loop-less Inv-loop μ-loop
 loop-less c = omega arith
 
 loop-again : tie.Need-loop-again Inv-loop μ-loop
-loop-again c = marked-more (c .before .before .before .before .loop .inv) (c .before .before .before .loop-test .taken) (c .before .wide .ensures .0 ∙ c .before .before .turn-point .ensures) (c .if1 .left)
+loop-again c =
+    let turn = c .before in
+    marked-more (turn .before .before .before .loop .inv) (turn .before .before .loop-test .taken) (turn .wide .ensures .0 ∙ turn .before .turn-point .ensures) (c .if1 .left)
 
 returns-2 : tie.Need-returns-2 Inv-loop μ-loop
 returns-2 c = not-found (c .before .loop .inv .sought) (c .loop-test .left)

@@ -26,10 +26,15 @@ section-number-requires-2 : tie.Need-section-number-requires-2 Inv-loop μ-loop
 section-number-requires-2 c κs = tt
 
 place-requires : tie.Need-place-requires Inv-loop μ-loop
-place-requires c κs = first-room (c .before .before .before .before .before .loop .inv) (c .before .before .before .before .loop-test .taken) (c .before .before .before .section-number .ensures) (c .before .before .section-number2 .ensures)
+place-requires c κs =
+    let ends = c .before .before in
+    first-room (ends .before .before .before .loop .inv) (ends .before .before .loop-test .taken) (ends .before .section-number .ensures) (ends .section-number2 .ensures)
 
 place-requires-2 : tie.Need-place-requires-2 Inv-loop μ-loop
-place-requires-2 c κs = second-room (c .before .before .before .before .before .before .before .before .loop .inv) (c .before .before .before .before .before .before .before .loop-test .taken) (c .before .before .before .before .before .before .section-number .ensures) (c .before .before .before .before .before .section-number2 .ensures) (c .before .before .place .ensures .1)
+place-requires-2 c κs =
+    let ends = c .before .before .before .before .before in
+    second-room (ends .before .before .before .loop .inv) (ends .before .before .loop-test .taken) (ends .before .section-number .ensures) (ends .section-number2 .ensures)
+    (c .before .before .place .ensures .1)
 
 add-s : tie.Need-add-s Inv-loop μ-loop
 add-s c = omega arith
@@ -39,8 +44,9 @@ loop-less c = omega arith
 
 loop-again : tie.Need-loop-again Inv-loop μ-loop
 loop-again c =
+    let ends = c .before .before .before .before .before .before in
     let first = c .before .before .before .place .ensures in
-    held-more (c .before .before .before .before .before .before .before .before .before .loop .inv) (c .before .before .before .before .before .before .before .before .loop-test .taken) (c .before .before .before .before .before .before .before .section-number .ensures) (c .before .before .before .before .before .before .section-number2 .ensures)
+    held-more (ends .before .before .before .loop .inv) (ends .before .before .loop-test .taken) (ends .before .section-number .ensures) (ends .section-number2 .ensures)
     (first .1) (first .0) (c .place2 .ensures .1) (c .place2 .ensures .0)
 
 returns : tie.Need-returns Inv-loop μ-loop
