@@ -1,0 +1,50 @@
+// Which sections each point has: three slots a point, filled in ascending order.
+ghost use mathlib.Core.Path.{_≡_};
+ghost use Prim.Native.Nat.{_+_, _*_, _<_};
+ghost use lib.ListN.{getD, set};
+ghost use Rattle.plan.specs.Ends.{Joined, AtMostThree, Slots, counted};
+use crate::degree::count_up;
+use crate::read::END_A;
+use crate::read::END_B;
+use crate::read::section_count;
+use crate::read::section_number;
+use crate::read::wide;
+
+// Puts section s into the next slot of point p.
+fn place(slots: &mut [u32; 2304], filled: &mut [u32; 768], p: u32, s: u32)
+    requires { ⌜ (p < 768) × (getD (now filled) p 0 < 3) ⌝ }
+    ensures { λ _. ⌜ (now (slots .exit) ≡ set (now (slots .entry)) (3 * p + getD (now (filled .entry)) p 0) s) × (now (filled .exit) ≡ counted (now (filled .entry)) p) ⌝ }
+{
+    let at = wide(p);
+    let next = wide(filled[at]);
+    slots[3 * at + next] = s;
+    count_up(filled, p);
+}
+
+// The sections at each point, where no point has over three.
+pub fn index(sections: &[u32]) -> [u32; 2304]
+    requires { ⌜ Joined (now sections) × AtMostThree (now sections) ⌝ }
+    ensures { λ r. ⌜ Slots (now (sections .entry)) r ⌝ }
+{
+    let count = section_count(sections);
+    let mut slots = [0; 2304];
+    let mut filled = [0; 768];
+    let mut s = 0;
+    while s < count {
+        let a = section_number(sections, s, END_A);
+        let b = section_number(sections, s, END_B);
+        place(&mut slots, &mut filled, a, s);
+        place(&mut slots, &mut filled, b, s);
+        s += 1;
+    }
+    slots
+}
+
+// What stands in slot j of point p. Only a slot below the point's degree holds a section.
+pub fn slot_at(slots: &[u32; 2304], p: u32, j: u32) -> u32
+    requires { ⌜ (p < 768) × (j < 3) ⌝ }
+    ensures { λ r. ⌜ r ≡ getD (now (slots .entry)) (3 * p + j) 0 ⌝ }
+{
+    let at = 3 * wide(p) + wide(j);
+    slots[at]
+}
