@@ -1,5 +1,4 @@
 -- The laws that the proofs of this crate's functions share, and those that its callers' proofs cite.
-pub mod Branches
 pub mod Looking
 pub mod Counting
 pub mod Touching
@@ -9,4 +8,4 @@ pub mod Nearby
 pub mod PointMarks
 pub mod Rows
 pub mod Known
-pub mod Unique
+pub mod Answers

@@ -16,7 +16,7 @@ ghost use Rattle.rules.specs.Plan.{plan-of, turn-count};
 ghost use Rattle.rules.specs.Refusals.{verdict};
 ghost use Rattle.rules.specs.PlanCheck.{plan-checks};
 ghost use Rattle.plan.specs.Ends.{Joined};
-ghost use Rattle.plan.specs.Answer.{verdict-of, Numbered};
+ghost use Rattle.plan.specs.Answer.{checked-of};
 use degree::degrees;
 use degree::first_bad_degree;
 use doubled::first_doubled;
@@ -36,8 +36,7 @@ pub enum Checked {
 // Refusals 5 and 6.
 fn check_turns(sections: &[u32], turns: &[u32]) -> Checked
     requires { ⌜ Joined (now sections) × (turn-count (plan-of 0 (now sections) (now turns)) ≤ 768) ⌝ }
-    ensures { λ r. ⌜ verdict-of r ≡ verdict (drop 4 (plan-checks (plan-of 0 (now (sections .entry)) (now (turns .entry))))) ⌝ }
-    ensures { λ r. ⌜ Numbered r ⌝ }
+    ensures { λ r. ⌜ r ≡ checked-of (verdict (drop 4 (plan-checks (plan-of 0 (now (sections .entry)) (now (turns .entry)))))) ⌝ }
 {
     let count = turn_count(turns);
     let bad = first_bad_turn(sections, turns);
@@ -54,8 +53,7 @@ fn check_turns(sections: &[u32], turns: &[u32]) -> Checked
 // Refusals 3 and 4, and then those of the turns.
 fn check_ends(points: u32, sections: &[u32], turns: &[u32]) -> Checked
     requires { ⌜ (points ≤ 768) × Joined (now sections) × (turn-count (plan-of 0 (now sections) (now turns)) ≤ 768) ⌝ }
-    ensures { λ r. ⌜ verdict-of r ≡ verdict (drop 2 (plan-checks (plan-of points (now (sections .entry)) (now (turns .entry))))) ⌝ }
-    ensures { λ r. ⌜ Numbered r ⌝ }
+    ensures { λ r. ⌜ r ≡ checked-of (verdict (drop 2 (plan-checks (plan-of points (now (sections .entry)) (now (turns .entry)))))) ⌝ }
 {
     let counts = degrees(sections);
     let twin = first_doubled(sections, &counts);
@@ -71,8 +69,7 @@ fn check_ends(points: u32, sections: &[u32], turns: &[u32]) -> Checked
 
 // The plan check: any numbers, any lengths of the two tables.
 pub fn check_plan(points: u32, sections: &[u32], turns: &[u32]) -> Checked
-    ensures { λ r. ⌜ verdict-of r ≡ verdict (plan-checks (plan-of points (now (sections .entry)) (now (turns .entry)))) ⌝ }
-    ensures { λ r. ⌜ Numbered r ⌝ }
+    ensures { λ r. ⌜ r ≡ checked-of (verdict (plan-checks (plan-of points (now (sections .entry)) (now (turns .entry))))) ⌝ }
 {
     if !tables_good(points, sections, turns) {
         return Checked::Refused(1, 0);

@@ -3,6 +3,7 @@
 ghost use mathlib.Core.Path.{_≡_};
 ghost use mathlib.Core.List.{[]};
 ghost use Prim.Native.Nat.{_<_};
+ghost use lib.Dec.{ltb};
 ghost use lib.ListN.{getD};
 ghost use Rattle.rules.specs.Plan.{plan-of, of-sections, section-count, turn-count, field, free-at, turn-section};
 
@@ -73,4 +74,11 @@ pub fn turn_count(turns: &[u32]) -> u32
 {
     let count = turns.len() / 2;
     count as u32
+}
+
+// There is a section of this number.
+pub fn has_section(sections: &[u32], s: u32) -> bool
+    ensures { λ r. ⌜ r ≡ ltb s (section-count (of-sections (now (sections .entry)))) ⌝ }
+{
+    wide(s) < sections.len() / 6
 }

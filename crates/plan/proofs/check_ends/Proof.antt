@@ -1,12 +1,13 @@
 -- `check_ends` meets its contract: the verdict of rows 3 and 4, row by row, and then that of the rows of the turns.
 -- Assumes nothing.
-use mathlib.Core.Path.{_≡_, refl, _∙_}
+use mathlib.Core.Path.{_≡_, refl, _∙_, ap}
 use native.Mathlib.Omega.{arith}
 use borrow.Author.Needs.{needs}
 use Rattle.rules.specs.Plan.{Plan, plan-of}
 use Rattle.rules.specs.PlanCheck.{degree-bad}
 use Rattle.rules.specs.Ranges.{first-of}
 use Rattle.rules.specs.Refusals.{Verdict}
+use Rattle.plan.specs.Answer.{checked-of}
 use Rattle.plan.proofs.Counts.{by-degrees}
 use Rattle.plan.proofs.Rows.{verdict-past, refused-3, past-3, refused-4, past-4}
 use Rattle.plan.proofs.check_ends.Statement.{statement}
@@ -36,22 +37,22 @@ section-count-requires : tie.Need-section-count-requires
 section-count-requires c κs = search needs
 
 returns : tie.Need-returns
-returns c = (refused-3 (plan (c .before .before .before .before)) (c .before .before .first-doubled .ensures) (c .before .section-count .ensures) (c .if1 .taken), λ e. omega arith)
+returns c = ap checked-of (refused-3 (plan (c .before .before .before .before)) (c .before .before .first-doubled .ensures) (c .before .section-count .ensures) (c .if1 .taken))
 
 first-bad-degree-requires : tie.Need-first-bad-degree-requires
 first-bad-degree-requires c κs = search needs
 
 returns-2 : tie.Need-returns-2
-returns-2 c = (not-doubled (c .before .before .before) (refused-4 (plan (c .before .before .before .before .before .before .before)) (first-point (c .before)) refl (c .if2 .taken)), λ e. omega arith)
+returns-2 c =
+    ap checked-of (not-doubled (c .before .before .before) (refused-4 (plan (c .before .before .before .before .before .before .before)) (first-point (c .before)) refl (c .if2 .taken)))
 
 check-turns-requires : tie.Need-check-turns-requires
 check-turns-requires c κs = search needs
 
 returns-3 : tie.Need-returns-3
-returns-3 c = (
-  not-doubled (c .before .before .before .before) (past-4 (plan (c .before .before .before .before .before .before .before .before)) (first-point (c .before .before)) refl (c .before .if2 .left) (c .check-turns .ensures .0)),
-  c .check-turns .ensures .1,
-)
+returns-3 c =
+    c .check-turns .ensures
+    ∙ ap checked-of (not-doubled (c .before .before .before .before) (past-4 (plan (c .before .before .before .before .before .before .before .before)) (first-point (c .before .before)) refl (c .before .if2 .left) refl))
 
 pub check-ends-spec : {M : Type 1} → statement M
 check-ends-spec =

@@ -1,12 +1,13 @@
 -- `check_plan` meets its contract: the verdict of rows 1 and 2, row by row, and then that of the rows below.
 -- Assumes nothing.
-use mathlib.Core.Path.{_≡_}
+use mathlib.Core.Path.{_≡_, ap, refl, _∙_}
 use Prim.Native.Nat.{_≤_}
 use native.Mathlib.Omega.{arith}
 use borrow.Author.Needs.{needs}
 use Rattle.rules.specs.Plan.{Plan, plan-of, section-count, turn-count}
 use Rattle.rules.specs.PlanCheck.{section-bad}
 use Rattle.rules.specs.Refusals.{Verdict}
+use Rattle.plan.specs.Answer.{checked-of}
 use Rattle.plan.proofs.Known.{sized, joined-known}
 use Rattle.plan.proofs.Looking.{all-clear}
 use Rattle.plan.proofs.Rows.{verdict-past, refused-1, past-1, refused-2, past-2}
@@ -30,7 +31,7 @@ tables-good-requires : tie.Need-tables-good-requires
 tables-good-requires c κs = search needs
 
 returns : tie.Need-returns
-returns c = (refused-1 (plan (c .before)) (c .before .tables-good .ensures) (c .if1 .taken), λ e. omega arith)
+returns c = ap checked-of (refused-1 (plan (c .before)) (c .before .tables-good .ensures) (c .if1 .taken))
 
 first-bad-section-requires : tie.Need-first-bad-section-requires
 first-bad-section-requires c κs = let size = sizes c in omega arith
@@ -39,10 +40,9 @@ section-count-requires : tie.Need-section-count-requires
 section-count-requires c κs = let size = sizes (c .before) in omega arith
 
 returns-2 : tie.Need-returns-2
-returns-2 c = (
-  tables-pass (c .before .before .before) (refused-2 (plan (c .before .before .before .before)) (c .before .before .first-bad-section .ensures) (c .before .section-count .ensures) (c .if2 .taken)),
-  λ e. omega arith,
-)
+returns-2 c =
+    ap checked-of (tables-pass (c .before .before .before)
+    (refused-2 (plan (c .before .before .before .before)) (c .before .before .first-bad-section .ensures) (c .before .section-count .ensures) (c .if2 .taken)))
 
 check-ends-requires : tie.Need-check-ends-requires
 check-ends-requires c κs =
@@ -54,11 +54,10 @@ check-ends-requires c κs =
     )
 
 returns-3 : tie.Need-returns-3
-returns-3 c = (
-  tables-pass (c .before .before .before .before)
-      (past-2 (plan (c .before .before .before .before .before)) (c .before .before .before .first-bad-section .ensures) (c .before .before .section-count .ensures) (c .before .if2 .left) (c .check-ends .ensures .0)),
-  c .check-ends .ensures .1,
-)
+returns-3 c =
+    c .check-ends .ensures
+    ∙ ap checked-of (tables-pass (c .before .before .before .before)
+    (past-2 (plan (c .before .before .before .before .before)) (c .before .before .before .first-bad-section .ensures) (c .before .before .section-count .ensures) (c .before .if2 .left) refl))
 
 pub check-plan-spec : {M : Type 1} → statement M
 check-plan-spec =

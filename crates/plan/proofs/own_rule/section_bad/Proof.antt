@@ -3,7 +3,7 @@
 use mathlib.Core.Bool.{not}
 use mathlib.Core.Path.{sym, ap, _∙_}
 use borrow.Author.Needs.{needs}
-use Rattle.plan.proofs.Branches.{and-on, and-off}
+use Rattle.rules.proofs.Branches.{and-on, and-off}
 use Rattle.plan.proofs.own_rule.section_bad.Statement.{statement}
 use Rattle.plan.proofs.own_rule.section_bad.Tie as tie
 

@@ -2,7 +2,7 @@
 -- Assumes nothing.
 use mathlib.Core.Path.{refl}
 use borrow.Author.Needs.{needs}
-use Rattle.plan.proofs.Branches.{equal, unequal, first-one, second-one}
+use Rattle.rules.proofs.Branches.{equal, unequal, first-one, second-one}
 use Rattle.plan.proofs.section.far_end.Statement.{statement}
 use Rattle.plan.proofs.section.far_end.Tie as tie
 

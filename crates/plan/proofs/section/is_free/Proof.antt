@@ -1,7 +1,7 @@
 -- `section::is_free` meets its contract: the code tests the two free lengths in the order of the definition.
 -- Assumes nothing.
 use borrow.Author.Needs.{needs}
-use Rattle.plan.proofs.Branches.{equal, unequal, and-on, and-off}
+use Rattle.rules.proofs.Branches.{equal, unequal, and-on, and-off}
 use Rattle.plan.proofs.section.is_free.Statement.{statement}
 use Rattle.plan.proofs.section.is_free.Tie as tie
 

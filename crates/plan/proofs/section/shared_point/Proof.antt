@@ -2,7 +2,7 @@
 -- Assumes nothing.
 use mathlib.Core.Path.{sym, _∙_}
 use borrow.Author.Needs.{needs}
-use Rattle.plan.proofs.Branches.{first-one, second-one}
+use Rattle.rules.proofs.Branches.{first-one, second-one}
 use Rattle.plan.proofs.section.shared_point.Statement.{statement}
 use Rattle.plan.proofs.section.shared_point.Tie as tie
 

@@ -2,7 +2,7 @@
 -- Assumes nothing.
 use mathlib.Core.Path.{refl}
 use borrow.Author.Needs.{needs}
-use Rattle.plan.proofs.Branches.{equal, unequal, or-on, or-off}
+use Rattle.rules.proofs.Branches.{equal, unequal, or-on, or-off}
 use Rattle.plan.proofs.section.touches.Statement.{statement}
 use Rattle.plan.proofs.section.touches.Tie as tie
 

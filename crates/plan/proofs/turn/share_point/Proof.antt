@@ -2,7 +2,7 @@
 -- Assumes nothing.
 use mathlib.Core.Path.{sym, _∙_}
 use borrow.Author.Needs.{needs}
-use Rattle.plan.proofs.Branches.{or-on, or-off}
+use Rattle.rules.proofs.Branches.{or-on, or-off}
 use Rattle.plan.proofs.turn.share_point.Statement.{statement}
 use Rattle.plan.proofs.turn.share_point.Tie as tie
 

@@ -1,0 +1,2 @@
+-- What the structs of the C ABI mean.
+pub mod Numbers

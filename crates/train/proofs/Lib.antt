@@ -1,0 +1,2 @@
+-- Laws of the checks of a train.
+pub mod Order
