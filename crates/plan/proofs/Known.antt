@@ -56,7 +56,7 @@ turned-known {ss} {ts} joined l c = record { few = l; each = λ t h. at t (c .be
         let j = joined .each s (omega arith) in
         either (touches (plan-of 0 ss ts) r (end-A (plan-of 0 ss ts) s)) (end-A (plan-of 0 ss ts) s) (end-B (plan-of 0 ss ts) s) (j .a) (j .b)
 
--- all of them
+-- all six: what a caller that has had the plan checked may rely on
 module _ (y : Plan) (e : verdict (plan-checks y) ≡ passed) where
   rows : Passed (plan-checks y)
   rows = passes (plan-checks y) tt e
@@ -70,7 +70,7 @@ module _ (y : Plan) (e : verdict (plan-checks y) ≡ passed) where
   pub plan-turned : Turned (y .sections) (y .turns)
   plan-turned = turned-known plan-joined (counts-good .2) (record { below = rows .1 .1 .1 .1 .0 })
 
-  -- a number that is no point of the plan has no sections
+  -- a number that is no point of the plan has no sections, so not over three
   no-sections : (p : ℕ) → y .points ≤ p → degree y p ≤ 3
   no-sections p l = go (decLt 0 (degree y p))
     where
