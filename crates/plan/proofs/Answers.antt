@@ -4,9 +4,8 @@ use mathlib.Core.Path.{_≡_, refl, sym}
 use mathlib.Core.Bool.{Bool, true, false}
 use mathlib.Core.List.{List}
 use lib.Dec.{T, eqb, eqb→eq}
-use Rattle.rules.specs.Refusals.{Verdict, Check, verdict}
+use Rattle.rules.specs.Refusals.{Check, verdict}
 use Rattle.rules.proofs.Verdicts.{numbered, number-0}
-use Rattle.plan.specs.declared.Checked.{Checked}
 use Rattle.plan.specs.declared.Checked.the-variants.{Passed, Refused}
 use Rattle.plan.specs.Answer.{verdict-of, checked-of}
 

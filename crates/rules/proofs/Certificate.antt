@@ -15,7 +15,7 @@ use Rattle.rules.specs.Query.{Query, start-arrival}
 use Rattle.rules.specs.Net.{no-distance, FirstShortest, NoWalk, Remaining, KeepsRules}
 use Rattle.rules.specs.Trip.{Trip, Step, cost, net-of, trip-of, query-net}
 use Rattle.rules.specs.Search.{Labelled}
-use Rattle.rules.proofs.Tests.{clash, and-T, T-and, or-T, and-iff, tests}
+use Rattle.rules.proofs.Tests.{clash, and-T, T-and, or-T, tests}
 use Rattle.rules.proofs.Ranges.{every-T, some-T}
 use Rattle.rules.proofs.Walks.{Attained, unreached, at-end, by-step, keeps-everywhere, attained-remaining, none-no-walk}
 use Rattle.rules.proofs.First.{Follow, stop, go-on, follow-first}

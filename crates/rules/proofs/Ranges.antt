@@ -1,16 +1,16 @@
 -- What the tests over a range say: some number, the first number, how many.
 -- Assumes nothing.
-use mathlib.Core.Path.{_≡_, refl, sym, _∙_}
+use mathlib.Core.Path.{_≡_, refl, _∙_}
 use mathlib.Core.Logic.{_⊎_, inl, inr}
 use mathlib.Core.Bool.{Bool, true, false, cond, not}
-use mathlib.Core.List.{List, [], _∷_, List·Memᴰ}
+use mathlib.Core.List.{List, _∷_, List·Memᴰ}
 use Prim.Native.Nat.{ℕ, zero, suc, _+_, _≤_, _<_}
 use native.Mathlib.Nat.{eq-or-lt-of-le}
 use native.Mathlib.Numerals.{add-one}
 use native.Mathlib.Omega.{arith}
 use native.Mathlib.Decide.{decLt}
 use lib.Dec.{T}
-use Rattle.rules.specs.Ranges.{every, some-of, first-of, count-of, Distinct, nil, cons}
+use Rattle.rules.specs.Ranges.{every, some-of, first-of, count-of, Distinct, cons}
 use Rattle.rules.proofs.Tests.{clash, fails}
 
 pub distinct-head : {x : ℕ} {xs : List ℕ} → Distinct (x ∷ xs) → List·Memᴰ x xs → ⊥

@@ -1,16 +1,16 @@
 -- The sheet checker's answer, computed by antt (`judged`), and that it is the one that the definition allows (`judged-right`).
 -- Assumes nothing.
-use mathlib.Core.Path.{_≡_, refl, sym, ap, _∙_}
+use mathlib.Core.Path.{_≡_, refl, ap, _∙_}
 use mathlib.Core.Logic.{_≢_, _⊎_, inl, inr}
 use mathlib.Core.Bool.{Bool, true, false, not, _&&_, _||_}
 use mathlib.Core.List.{List, [], _∷_, _++_}
 use Prim.Native.Nat.{ℕ, _+_, _<_}
 use native.Mathlib.Omega.{arith}
 use native.Mathlib.Decide.{ℕ-discrete}
-use lib.Dec.{T, eqb, eqb→eq, eqb-refl}
+use lib.Dec.{T, eqb, eqb→eq}
 use lib.ListN.{length}
 use Rattle.rules.specs.Plan.{arrivals}
-use Rattle.rules.specs.Refusals.{Verdict, Check, passed, refused-at, once, each, verdict}
+use Rattle.rules.specs.Refusals.{Verdict, Check, passed, once, each, verdict}
 use Rattle.rules.specs.Query.{Query, start-arrival, first-distance, query-checks}
 use Rattle.rules.specs.Net.{no-distance}
 use Rattle.rules.specs.Trip.{trip-of, total}
@@ -18,7 +18,7 @@ use Rattle.rules.specs.Search.{Numbers, refusal, success}
 use Rattle.rules.specs.Sheet.{Sheet, label-of, Claims, RulesAt, StartLabel, Accepted, SheetAnswer, refused, bad-claim, bad-label, bad-start, accepted}
 use Rattle.rules.proofs.Tests.{clash, T-and, and-T, or-T, T-or-left, T-or-right, not-not-iff, tests}
 use Rattle.rules.proofs.Verdicts.{FirstCheck, stops, leaves, first-check, refused-first, passed-first, number-0}
-use Rattle.rules.proofs.Sound.{Sound, sound}
+use Rattle.rules.proofs.Sound.{sound}
 use Rattle.rules.proofs.StepTests.{is-walk, HasLengths, walk-T, T-walk}
 use Rattle.rules.proofs.LabelTests.{label-bad, kept-T, bad-T}
 use Rattle.rules.proofs.Certificate.{has-lengths}

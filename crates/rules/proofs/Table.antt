@@ -1,8 +1,7 @@
 -- The table of document 01's cases under one theorem (`table`): each case has a test that antt computes, one computation passes them
 -- all, and one law turns a passed test into what the case says.
 -- Assumes nothing.
-use mathlib.Core.Path.{_≡_, refl, sym, _∙_}
-use mathlib.Core.Logic.{_≢_}
+use mathlib.Core.Path.{_≡_, refl}
 use mathlib.Core.Bool.{Bool, true, false, not, _&&_}
 use mathlib.Core.Option.{Option, none, some}
 use mathlib.Core.List.{List, [], _∷_, List·Memᴰ, List·Memᴰ·head, List·Memᴰ·tail}
@@ -17,12 +16,12 @@ use Rattle.rules.specs.PlanCheck.{plan-checks}
 use Rattle.rules.specs.Query.{Query, start-arrival, query-checks}
 use Rattle.rules.specs.PullOut.{any-section}
 use Rattle.rules.specs.Trip.{trip-of, total, walk-reversals}
-use Rattle.rules.specs.Search.{Numbers, Answer, refused, no-route, found, walk-checks}
+use Rattle.rules.specs.Search.{Numbers, refused, no-route, found, walk-checks}
 use Rattle.rules.specs.PullAnswer.{Reversal, turn-asked, pull-checks, none-found, pulled}
 use Rattle.rules.specs.Cases.{Case, refuses, no-way, goes, judges, pulls, pulls-none, Right, cases}
 use Rattle.rules.proofs.Tests.{and-T, tests}
 use Rattle.rules.proofs.Verdicts.{passes, passes-both, accepts}
-use Rattle.rules.proofs.Sound.{Sound, sound, plan-passed}
+use Rattle.rules.proofs.Sound.{sound, plan-passed}
 use Rattle.rules.proofs.Trips.{query-few-steps}
 use Rattle.rules.proofs.Certificate.{label-at, labels-pass, none-passes, walk-passes, follows, labelled, first-walk, no-walk-at}
 use Rattle.rules.proofs.PullSearch.{Positive, pull-out-of, pull-found, pull-missing}

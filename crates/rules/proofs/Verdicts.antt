@@ -8,9 +8,9 @@ use Prim.Native.Nat.{ℕ, _≤_, _<_}
 use native.Mathlib.Omega.{arith}
 use lib.Dec.{T, leb, leb→le, ltb, ltb→lt, nltb→le}
 use Rattle.rules.specs.Ranges.{first-of}
-use Rattle.rules.specs.Refusals.{Verdict, Check, refused-at, passed, once, each, verdict}
-use Rattle.rules.proofs.Tests.{and-T, clash}
-use Rattle.rules.proofs.Ranges.{Least, hit, past, least, first-is, first-past}
+use Rattle.rules.specs.Refusals.{Verdict, Check, refused-at, passed, once, verdict}
+use Rattle.rules.proofs.Tests.{and-T}
+use Rattle.rules.proofs.Ranges.{Least, hit, past, least, first-past}
 
 abbrev pub number-of : Verdict → ℕ
 number-of v = v .number

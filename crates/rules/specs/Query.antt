@@ -1,11 +1,11 @@
 -- One train with its start and its finish, and which of these are refused: numbers 7 to 11.
 -- Assumes nothing.
-use mathlib.Core.Bool.{Bool, cond, not, _&&_, _||_}
+use mathlib.Core.Bool.{Bool, cond, not, _&&_}
 use mathlib.Core.List.{List, [], _∷_, _++_}
 use Prim.Native.Nat.{ℕ, _+_, _*_}
 use lib.Dec.{eqb, leb, ltb}
 use Rattle.rules.specs.Ranges.{between}
-use Rattle.rules.specs.Plan.{Plan, plan-of, section-count, len, free-A, free-B, free-at, is-free, destination, arrivals}
+use Rattle.rules.specs.Plan.{Plan, section-count, len, free-A, free-B, free-at, is-free, destination, arrivals}
 use Rattle.rules.specs.Refusals.{Check, once}
 use Rattle.rules.specs.PlanCheck.{plan-checks}
 

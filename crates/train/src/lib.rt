@@ -12,7 +12,7 @@ ghost use mathlib.Core.List.{[]};
 ghost use lib.Dec.{eqb};
 ghost use Rattle.rules.specs.Plan.{of-sections};
 ghost use Rattle.rules.specs.Refusals.{verdict};
-ghost use Rattle.rules.specs.Query.{query-of, train-good, start-good, finish-good, room-good, train-checks};
+ghost use Rattle.rules.specs.Query.{query-of, train-good, start-good, finish-good, train-checks};
 ghost use Rattle.plan.specs.Answer.{checked-of};
 
 // The train's length is in range.

@@ -1,7 +1,6 @@
 -- `check_ends` meets its contract: the verdict of rows 3 and 4, row by row, and then that of the rows of the turns.
 -- Assumes nothing.
 use mathlib.Core.Path.{_≡_, refl, _∙_, ap}
-use native.Mathlib.Omega.{arith}
 use borrow.Author.Needs.{needs}
 use Rattle.rules.specs.Plan.{Plan, plan-of}
 use Rattle.rules.specs.PlanCheck.{degree-bad}

@@ -1,7 +1,6 @@
 -- `check_turns` meets its contract: the verdict of rows 5 and 6, row by row.
 -- Assumes nothing.
 use mathlib.Core.Path.{refl, ap}
-use native.Mathlib.Omega.{arith}
 use borrow.Author.Needs.{needs}
 use Rattle.rules.specs.Plan.{Plan, plan-of, turn-count}
 use Rattle.rules.specs.PlanCheck.{turn-bad}

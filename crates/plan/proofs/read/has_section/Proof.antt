@@ -1,6 +1,5 @@
 -- `read::has_section` meets its contract: the widened number is the number.
 -- Assumes nothing.
-use mathlib.Core.Path.{refl}
 use borrow.Author.Needs.{needs}
 use Rattle.plan.proofs.read.has_section.Statement.{statement}
 use Rattle.plan.proofs.read.has_section.Tie as tie

@@ -1,6 +1,6 @@
 -- `place::destination_end` meets its contract: three tests in the order of the definition.
 -- Assumes nothing.
-use mathlib.Core.Path.{sym, refl, _∙_}
+use mathlib.Core.Path.{sym, _∙_}
 use borrow.Author.Tests.{not-true, not-false, le-leb, lt-leb}
 use borrow.Author.Needs.{needs}
 use Rattle.rules.proofs.Branches.{and-on, and-off}
