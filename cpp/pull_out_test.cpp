@@ -148,6 +148,7 @@ void too_short() {
     finds_up_to("the third of three tries, after going back two points", plan, 360, 0, 1, {2, 6, 7});
     plan.occupy(2, 60, 30);
     finds_up_to("but not beyond a section that is not free", plan, 60, 0, 1, {2});
+    refuses("nor where it would be long enough", plan, {300, 0, 1}, 16);
     plan = reversal(7);
     plan.join(0, 3, 10);
     plan.join(3, 4, 40);
@@ -356,7 +357,7 @@ void enough(const Met &met) {
 
 void against_second_program() {
     Met met;
-    for (uint32_t seed = 1; seed <= 2000 && !failed; seed++) {
+    for (uint32_t seed = 1; seed <= 1500 && !failed; seed++) {
         Draw draw(seed);
         const Plan plan = draw_plan(draw);
         for (const Question &question : questions(draw, plan)) {
