@@ -11,8 +11,8 @@
 // A yard being built: sections of 20 decimetres unless stated, so that the longest run stays below the longest train.
 struct Builder {
     Plan plan{3, {}, {}};
-    uint32_t end = 0;  // where the line goes on
-    uint32_t run = 0;  // the longest run from point 0 to there
+    uint32_t end = 0; // where the line goes on
+    uint32_t run = 0; // the longest run from point 0 to there
 
     Builder() {
         plan.join(0, 1, 20);
@@ -219,7 +219,8 @@ inline YardCase crossovers(uint32_t cells) {
     return {b.plan, b.run};
 }
 
-// The two tracks are joined at their end, so that a train comes back on the other. The longest run does so without crossovers.
+// The two tracks are joined at their end, so that a train comes back on the other. The longest run does so without
+// crossovers.
 inline YardCase crossovers_and_loop(uint32_t cells) {
     Builder b = double_track(cells);
     b.track(b.end, b.plan.points - 1);

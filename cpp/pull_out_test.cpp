@@ -6,6 +6,7 @@
 #include "random_plans.h"
 #include "second_pull_out.h"
 #include <cstdio>
+#include <functional>
 #include <map>
 #include <string>
 
@@ -72,7 +73,8 @@ void finds(const std::string &what, const Plan &plan, const Question &question, 
 }
 
 // L is the most that a pull-out takes, over these sections, for a reversal from c to s or from s to c at end A of both.
-void finds_up_to(const std::string &what, const Plan &plan, uint32_t length, uint32_t c, uint32_t s, const List &sections) {
+void finds_up_to(const std::string &what, const Plan &plan, uint32_t length, uint32_t c, uint32_t s,
+                 const List &sections) {
     finds(what, plan, {length, 2 * c, s}, sections);
     finds(what + ", the other way", plan, {length, 2 * s, c}, sections);
     refuses(what + ", one more", plan, {length + 1, 2 * c, s}, 16);
@@ -236,8 +238,7 @@ void longest() {
 void no_such_turn() {
     for (uint32_t arrival : {8u, 9u, 2048u, 4294967294u, 4294967295u})
         refuses("arrival out of range", loop, {600, arrival, 2}, 15);
-    for (uint32_t section : {4u, 5u, 1024u, 4294967295u})
-        refuses("section out of range", loop, {600, 2, section}, 15);
+    for (uint32_t section : {4u, 5u, 1024u, 4294967295u}) refuses("section out of range", loop, {600, 2, section}, 15);
     refuses("section not at the arrival's point", loop, {600, 2, 3}, 15);
     refuses("not a forbidden turn", loop, {600, 2, 0}, 15);
     refuses("the arrival's own section", loop, {600, 2, 1}, 15);
@@ -278,17 +279,21 @@ void order() {
     refuses("2 before 3", plan, question, 2, 3);
     plan.turns.push_back(0);
     refuses("1 before 2", plan, question, 1);
-    for (uint32_t number = 1; number <= 6; number++) {
-        Plan damaged = loop;
-        if (number == 6) damaged.forbid(2, 1);
-        if (number == 5) damaged.forbid(1, 3);
-        if (number == 4) damaged.points = 5;
-        if (number == 3) damaged.join(2, 1, 50);
-        if (number == 2) damaged.occupy(3, 300, 0);
-        if (number == 1) damaged.sections.pop_back();
-        const uint32_t places[] = {0, 3, 4, 4, 1, 1};
-        refuses("each alone", damaged, loop_asked, number, places[number - 1]);
-    }
+}
+
+// Each fault of the plan alone.
+void damaged() {
+    const auto with = [](const std::function<void(Plan &)> &fault) {
+        Plan plan = loop;
+        fault(plan);
+        return plan;
+    };
+    refuses("a section cut short", with([](Plan &plan) { plan.sections.pop_back(); }), loop_asked, 1);
+    refuses("free from one end only", with([](Plan &plan) { plan.occupy(3, 300, 0); }), loop_asked, 2, 3);
+    refuses("the ends of section 3 again", with([](Plan &plan) { plan.join(2, 1, 50); }), loop_asked, 3, 4);
+    refuses("a point without a section", with([](Plan &plan) { plan.points = 5; }), loop_asked, 4, 4);
+    refuses("a turn onto a destination", with([](Plan &plan) { plan.forbid(1, 3); }), loop_asked, 5, 1);
+    refuses("the turn again", with([](Plan &plan) { plan.forbid(2, 1); }), loop_asked, 6, 1);
 }
 
 // A null pointer goes with 0 entries.
@@ -296,8 +301,8 @@ void null_tables() {
     const auto got = [](const finder_pull &pull) { return Answer{pull.refusal, pull.place, pull.count, {}}; };
     const Plan &y = loop;
     expect("a null list",
-           got(finder_pull_out(y.points, y.sections.data(), y.sections.size(), y.turns.data(), y.turns.size(), 600, 2, 2,
-                               nullptr, 0)),
+           got(finder_pull_out(y.points, y.sections.data(), y.sections.size(), y.turns.data(), y.turns.size(), 600, 2,
+                               2, nullptr, 0)),
            {14, 0, 0, {}});
     expect("null turns",
            got(finder_pull_out(y.points, y.sections.data(), y.sections.size(), nullptr, 0, 600, 2, 2, nullptr, 0)),
@@ -382,6 +387,7 @@ int main() {
     longest();
     no_such_turn();
     order();
+    damaged();
     null_tables();
     against_second_program();
     std::puts(failed ? "pull_out_test: failed" : "pull_out_test: good");

@@ -11,7 +11,9 @@ public:
     // A number below n; n is small, so that the remainder does not matter.
     uint32_t below(uint32_t n) { return static_cast<uint32_t>(engine_() % n); }
     bool one_in(uint32_t n) { return below(n) == 0; }
-    template <class T> const T &of(const std::vector<T> &list) { return list[below(static_cast<uint32_t>(list.size()))]; }
+    template <class T> const T &of(const std::vector<T> &list) {
+        return list[below(static_cast<uint32_t>(list.size()))];
+    }
 
 private:
     std::mt19937 engine_;
@@ -67,7 +69,8 @@ inline Plan draw_plan(Draw &draw) {
 
 // One fault, or what looks like one.
 inline void damage(Draw &draw, Plan &plan) {
-    const std::vector<uint32_t> numbers{0, 1, 2, 3, 4, 5, 6, 7, 767, 768, 769, 200000, 200001, 2147483648u, 4294967295u};
+    const std::vector<uint32_t> numbers{0,   1,   2,   3,      4,      5,           6,          7,
+                                        767, 768, 769, 200000, 200001, 2147483648u, 4294967295u};
     const auto any_section = [&] { return draw.below(plan.count() + 1); };
     switch (draw.below(8)) {
     case 0: plan.points = draw.of(numbers); break;

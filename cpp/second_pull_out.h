@@ -103,7 +103,8 @@ inline Refusal check_plan(const Plan &plan) {
     const size_t sections = yard.sections.size(), turns = yard.turns.size();
     if (sections < 1 || sections > 1024 || turns > 768) return {1};
     const auto at = [](size_t place) { return static_cast<uint32_t>(place); };
-    if (auto s = lowest(sections, [&](size_t i) { return breaks_its_rule(yard, yard.sections[i]); })) return {2, at(*s)};
+    if (auto s = lowest(sections, [&](size_t i) { return breaks_its_rule(yard, yard.sections[i]); }))
+        return {2, at(*s)};
     if (auto s = lowest(sections, [&](size_t i) { return same_points_as_earlier(yard, i); })) return {3, at(*s)};
     if (auto p = lowest(yard.points, [&](size_t i) { return wrong_at_point(yard, i); })) return {4, at(*p)};
     if (auto t = lowest(turns, [&](size_t i) { return no_turn(yard, i); })) return {5, at(*t)};
