@@ -329,7 +329,7 @@ void weigh(const Plan &plan, const Question &question, Met &met) {
     second::Turning turning{};
     if (second::check_question(plan, question, turning).number != 0) return;
     const second::Yard yard(plan);
-    const auto chained = second::chained_lists(yard, turning.p);
+    const auto chained = second::chained_lists(yard, turning.p, second::Twice::listed);
     const auto first = second::first_pull_out(yard, turning, chained);
     for (size_t i = 0; i < second::clauses.size(); i++)
         met.decided[i] += second::first_pull_out(yard, turning, chained, i) != first;
@@ -339,7 +339,7 @@ void weigh(const Plan &plan, const Question &question, Met &met) {
 std::vector<Question> questions(Draw &draw, const Plan &plan) {
     std::vector<Question> list{{draw.below(12), draw.below(2 * plan.count() + 2), draw.below(plan.count() + 1)}};
     for (size_t i = 0; i + 1 < plan.turns.size(); i += 2) {
-        const uint32_t c = plan.turns[i], s = plan.turns[i + 1], length = 1 + draw.below(16);
+        const uint32_t c = plan.turns[i], s = plan.turns[i + 1], length = 1 + draw.below(2 * plan.count() + 6);
         for (const auto &[from, to] : {std::pair(c, s), std::pair(s, c)})
             for (uint32_t end : {0, 1}) list.push_back({length, 2 * from + end, to});
     }
@@ -355,23 +355,25 @@ void enough(const Met &met) {
     };
     for (uint32_t refusal : {0, 1, 2, 3, 4, 5, 6, 7, 14, 15, 16})
         expect_some("refusal " + std::to_string(refusal), met.refusals.count(refusal));
-    for (uint32_t count : {1, 2, 3, 4, 5}) expect_some(std::to_string(count) + " sections", met.counts.count(count));
+    for (uint32_t count : {1, 2, 3, 4, 5, 6, 7, 8})
+        expect_some(std::to_string(count) + " sections", met.counts.count(count));
     for (size_t i = 0; i < second::clauses.size(); i++)
         if (second::clauses[i].decides) expect_some(std::string(second::clauses[i].words), met.decided[i]);
 }
 
 void against_second_program() {
     Met met;
-    for (uint32_t seed = 1; seed <= 1500 && !failed; seed++) {
+    for (uint32_t seed = 1; seed <= 2000 && !failed; seed++) {
         Draw draw(seed);
-        const Plan plan = draw_plan(draw);
+        const bool tiny = seed % 4 != 0;
+        const Plan plan = draw_plan(draw, tiny ? 3 + draw.below(4) : 8 + draw.below(7));
         for (const Question &question : questions(draw, plan)) {
             compare(draw, plan, question, met);
-            if (seed % 8 == 0) weigh(plan, question, met);
+            if (seed % 8 == 1) weigh(plan, question, met);
         }
-        Plan damaged = plan;
-        for (uint32_t faults = 1 + draw.below(3); faults > 0; faults--) damage(draw, damaged);
-        for (const Question &question : questions(draw, damaged)) compare(draw, damaged, question, met);
+        Plan faulty = plan;
+        for (uint32_t faults = 1 + draw.below(3); faults > 0; faults--) damage(draw, faulty);
+        for (const Question &question : questions(draw, faulty)) compare(draw, faulty, question, met);
     }
     enough(met);
 }

@@ -1,4 +1,4 @@
-// Tiny plans full of loops, drawn at random, and the damage that the plan check has to find in them. The same seed gives the
+// Small plans full of loops, drawn at random, and the damage that the plan check has to find in them. The same seed gives the
 // same plans everywhere: no distribution of the standard library is used, as these differ from one to the next.
 #pragma once
 #include "plan.h"
@@ -60,9 +60,9 @@ inline void draw_turns(Draw &draw, Plan &plan) {
 }
 
 // Passes the plan check, but for points without a section, which are few.
-inline Plan draw_plan(Draw &draw) {
-    Plan plan{3 + draw.below(4) + draw.one_in(16), {}, {}};
-    draw_sections(draw, plan, 3 + draw.below(16));
+inline Plan draw_plan(Draw &draw, uint32_t points) {
+    Plan plan{points, {}, {}};
+    draw_sections(draw, plan, points + draw.below(4 * points));
     draw_turns(draw, plan);
     return plan;
 }

@@ -1,6 +1,6 @@
 // A second program for the plan check (1 to 6) and for pull-outs (1 to 7, 15, 16, 14), written from document 01 alone. It
 // decides by the sentences of the document, not by a search with marks: it writes down every chained list of sections by
-// length, keeps those that pass every clause, and takes the smallest. For tiny plans only: its time is exponential in E.
+// length, keeps those that pass every clause, and takes the smallest. For small plans only: its time is exponential in E.
 #pragma once
 #include "plan.h"
 #include <algorithm>
@@ -175,9 +175,11 @@ inline constexpr std::array<Clause, 9> clauses{{
 }};
 constexpr size_t no_clause = clauses.size();
 
-// Every list of 1 to E sections of which the first is entered at p and each next at the far end of the one before. In a
-// longer list some section occurs twice.
-inline std::vector<List> chained_lists(const Yard &yard, uint64_t p) {
+// Every list of 1 to E sections of which the first is entered at p and each next at the far end of the one before; in a
+// longer list some section occurs twice. Lists in which one does can be left out on the way: so does it however they go on.
+enum class Twice { listed, left_out };
+
+inline std::vector<List> chained_lists(const Yard &yard, uint64_t p, Twice twice) {
     struct Chained {
         List list;
         uint64_t end;
@@ -187,12 +189,13 @@ inline std::vector<List> chained_lists(const Yard &yard, uint64_t p) {
     for (size_t length = 1; length <= yard.sections.size(); length++) {
         std::vector<Chained> longer;
         for (const auto &[list, end] : longest)
-            for (uint32_t q = 0; q < yard.sections.size(); q++)
-                if (yard.sections[q].at(end)) {
-                    longer.push_back({list, yard.sections[q].far(end)});
-                    longer.back().list.push_back(q);
-                    all.push_back(longer.back().list);
-                }
+            for (uint32_t q = 0; q < yard.sections.size(); q++) {
+                if (!yard.sections[q].at(end)) continue;
+                if (twice == Twice::left_out && std::ranges::find(list, q) != list.end()) continue;
+                longer.push_back({list, yard.sections[q].far(end)});
+                longer.back().list.push_back(q);
+                all.push_back(longer.back().list);
+            }
         longest = std::move(longer);
     }
     return all;
@@ -238,7 +241,7 @@ inline Answer pull_out(const Plan &plan, const Question &question, List buffer) 
     Turning turning{};
     if (const Refusal r = check_question(plan, question, turning); r.number != 0) return {r.number, r.place, 0, buffer};
     const Yard yard(plan);
-    const auto list = first_pull_out(yard, turning, chained_lists(yard, turning.p));
+    const auto list = first_pull_out(yard, turning, chained_lists(yard, turning.p, Twice::left_out));
     if (!list) return {16, 0, 0, buffer};
     if (list->size() > buffer.size()) return {14, 0, 0, buffer};
     std::copy(list->begin(), list->end(), buffer.begin());
