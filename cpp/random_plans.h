@@ -1,5 +1,5 @@
 // Small plans full of loops, drawn at random, and the damage that the plan check has to find in them. The same seed gives the
-// same plans everywhere: no distribution of the standard library is used, as these differ from one to the next.
+// same plans everywhere: no distribution of the standard library is used, and no two draws stand in one call.
 #pragma once
 #include "plan.h"
 #include <random>
@@ -38,11 +38,15 @@ inline void draw_sections(Draw &draw, Plan &plan, uint32_t tries) {
         joined.emplace_back(a, b);
         degree[a]++;
         degree[b]++;
-        draw_stock(draw, plan, plan.join(a, b, 1 + draw.below(6), draw.one_in(4)));
+        const uint32_t length = 1 + draw.below(6), kind = draw.one_in(4);
+        draw_stock(draw, plan, plan.join(a, b, length, kind));
     };
     join(0, 1);
     join(1, 2);
-    for (uint32_t i = 0; i < tries; i++) join(draw.below(plan.points), draw.below(plan.points));
+    for (uint32_t i = 0; i < tries; i++) {
+        const uint32_t a = draw.below(plan.points), b = draw.below(plan.points);
+        join(a, b);
+    }
 }
 
 // Two connecting sections at most points where two meet.
@@ -71,17 +75,19 @@ inline Plan draw_plan(Draw &draw, uint32_t points) {
 inline void damage(Draw &draw, Plan &plan) {
     const std::vector<uint32_t> numbers{0,   1,   2,   3,      4,      5,           6,          7,
                                         767, 768, 769, 200000, 200001, 2147483648u, 4294967295u};
-    const auto any_section = [&] { return draw.below(plan.count() + 1); };
+    const uint32_t sections = plan.count();
+    const uint32_t any_section = draw.below(sections + 1), other_section = draw.below(sections + 1);
+    const uint32_t a = draw.below(8), b = draw.below(8), length = draw.below(9), kind = draw.below(2);
     switch (draw.below(8)) {
     case 0: plan.points = draw.of(numbers); break;
     case 1: plan.sections.pop_back(); break;
-    case 2: plan.turns.push_back(any_section()); break;
+    case 2: plan.turns.push_back(any_section); break;
     case 3: plan.sections[draw.below(static_cast<uint32_t>(plan.sections.size()))] = draw.of(numbers); break;
-    case 4: plan.join(draw.below(8), draw.below(8), draw.below(9), draw.below(2)); break;
-    case 5: plan.forbid(any_section(), any_section()); break;
+    case 4: plan.join(a, b, length, kind); break;
+    case 5: plan.forbid(any_section, other_section); break;
     case 6:
-        if (!plan.turns.empty()) plan.turns[draw.below(static_cast<uint32_t>(plan.turns.size()))] = any_section();
+        if (!plan.turns.empty()) plan.turns[draw.below(static_cast<uint32_t>(plan.turns.size()))] = any_section;
         break;
-    default: plan.occupy(draw.below(plan.count()), draw.below(7), draw.below(7));
+    default: plan.occupy(draw.below(sections), a, b);
     }
 }
