@@ -1,23 +1,11 @@
 // finder_check_plan through the C ABI: yard Y, a plan for each refusal and place, null tables, and buffers at guard pages.
 #include "finder.h"
 #include "guard.h"
+#include "plan.h"
 #include <cstdio>
 #include <vector>
 
 namespace {
-
-struct Plan {
-    uint32_t points;
-    std::vector<uint32_t> sections, turns;
-};
-
-const Plan yard_y{6,
-                  {0, 1, 3000, 1, 3000, 3000, //
-                   1, 2, 400,  0, 400,  400,  //
-                   1, 3, 500,  0, 500,  500,  //
-                   2, 4, 2000, 1, 100,  1300, //
-                   3, 5, 2500, 1, 2500, 2500},
-                  {1, 2}};
 
 int failed = 0;
 

@@ -1,0 +1,34 @@
+// A plan's numbers as the library takes them, and ways to write one down.
+#pragma once
+#include <cstdint>
+#include <initializer_list>
+#include <vector>
+
+struct Plan {
+    uint32_t points = 0;
+    std::vector<uint32_t> sections, turns;
+
+    uint32_t count() const { return static_cast<uint32_t>(sections.size() / 6); }
+
+    // A section between a and b on which nothing stands; its number.
+    uint32_t join(uint32_t a, uint32_t b, uint32_t length, uint32_t kind = 0) {
+        sections.insert(sections.end(), {a, b, length, kind, length, length});
+        return count() - 1;
+    }
+
+    void forbid(uint32_t c, uint32_t s) { turns.insert(turns.end(), {c, s}); }
+
+    // Stock on a section: what it leaves free from end A and from end B.
+    void occupy(uint32_t section, uint32_t from_a, uint32_t from_b) {
+        sections[6 * section + 4] = from_a;
+        sections[6 * section + 5] = from_b;
+    }
+};
+
+inline const Plan yard_y{6,
+                         {0, 1, 3000, 1, 3000, 3000, //
+                          1, 2, 400,  0, 400,  400,  //
+                          1, 3, 500,  0, 500,  500,  //
+                          2, 4, 2000, 1, 100,  1300, //
+                          3, 5, 2500, 1, 2500, 2500},
+                         {1, 2}};
