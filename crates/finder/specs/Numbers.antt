@@ -1,9 +1,15 @@
--- The C ABI's struct of five numbers, for the numbers of an answer.
+-- The C ABI's structs of numbers, for the numbers of an answer.
 -- Assumes nothing.
+use mathlib.Core.List.{List}
+use Prim.Native.Nat.{ℕ}
 use Rattle.rules.specs.Search.{Numbers, refusal}
+use Rattle.rules.specs.PullAnswer as rules
 use Rattle.plan.specs.declared.Checked.{Checked}
 use Rattle.plan.specs.Answer.{verdict-of}
+use Rattle.pullout.specs.declared.Pulled.{Pulled}
+use Rattle.pullout.specs.declared.Pulled.the-variants.{Found, Refused}
 use Rattle.finder.specs.declared.Answer.{Answer}
+use Rattle.finder.specs.declared.Pull.{Pull}
 
 -- the numbers in the struct's fields of the same names
 abbrev pub answerOf : Numbers → Answer
@@ -12,3 +18,12 @@ answerOf n = record { refusal = n .refusal; place = n .place; total = n .total; 
 -- what stands for the answer of a check: its verdict's number and place, and zeros
 abbrev pub check-answer : Checked → Answer
 check-answer c = answerOf (refusal (verdict-of c))
+
+-- what stands for the answer of a pull-out: its count, or a refusal's number and place
+abbrev pub pull-answer : Pulled → Pull
+pull-answer (Found n) = record { refusal = 0; place = 0; count = n }
+pull-answer (Refused n p) = record { refusal = n; place = p; count = 0 }
+
+-- the numbers of the struct with the lent list at exit, as the rules have them
+abbrev pub pulledOf : Pull → List ℕ → rules.Pulled
+pulledOf r list = record { refusal = r .refusal; place = r .place; count = r .count; list = list }

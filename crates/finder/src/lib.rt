@@ -1,11 +1,13 @@
 // The C ABI: thin entries over the crates below, on numbers and slices. include/finder.h declares them.
 use plan::Checked;
+use pullout::Pulled;
 ghost use mathlib.Core.Path.{_≡_};
 ghost use Rattle.rules.specs.Plan.{plan-of};
 ghost use Rattle.rules.specs.PlanCheck.{plan-checks};
 ghost use Rattle.rules.specs.Refusals.{verdict};
 ghost use Rattle.rules.specs.Search.{refusal};
-ghost use Rattle.finder.specs.Numbers.{answerOf, check-answer};
+ghost use Rattle.rules.specs.PullAnswer.{reversal-of, PullAnswer};
+ghost use Rattle.finder.specs.Numbers.{answerOf, check-answer, pulledOf, pull-answer};
 
 // The five numbers of an answer.
 #[repr(C)]
@@ -15,6 +17,14 @@ pub struct Answer {
     pub total: u32,
     pub reversals: u32,
     pub steps: u32,
+}
+
+// The three numbers of a pull-out.
+#[repr(C)]
+pub struct Pull {
+    pub refusal: u32,
+    pub place: u32,
+    pub count: u32,
 }
 
 // The numbers of a check.
@@ -46,4 +56,47 @@ pub extern "C" fn finder_check_plan(points: u32, sections: &[u32], turns: &[u32]
         ⌜ r ≡ answerOf (refusal (verdict (plan-checks (plan-of points (now (sections .entry)) (now (turns .entry)))))) ⌝ }
 {
     checked(plan::check_plan(points, sections, turns))
+}
+
+// The numbers of a pull-out.
+fn pulled(answer: Pulled) -> Pull
+    ensures { λ r. ⌜ r ≡ pull-answer answer ⌝ }
+{
+    match answer {
+        Pulled::Found(count) => Pull {
+            refusal: 0,
+            place: 0,
+            count: count,
+        },
+        Pulled::Refused(number, place) => Pull {
+            refusal: number,
+            place: place,
+            count: 0,
+        },
+    }
+}
+
+// Refusals 1 to 7, 15, 16, 14; the first pull-out into the front of the list.
+#[no_mangle]
+pub extern "C" fn finder_pull_out(
+    points: u32,
+    sections: &[u32],
+    turns: &[u32],
+    length: u32,
+    arrival: u32,
+    section: u32,
+    list: &mut [u32],
+) -> Pull
+    ensures { λ r.
+        ⌜ PullAnswer (reversal-of (plan-of points (now (sections .entry)) (now (turns .entry))) length arrival section) (now (list .entry)) (pulledOf r (now (list .exit))) ⌝ }
+{
+    pulled(pullout::pull_out(
+        points,
+        sections,
+        turns,
+        length,
+        arrival,
+        section,
+        list,
+    ))
 }
