@@ -1,0 +1,2 @@
+-- What this crate says beyond the rules: the marks of a try.
+pub mod Marks

@@ -1,0 +1,2 @@
+// Pull-outs: the search for the first one.
+pub mod marks;
