@@ -1,2 +1,3 @@
 // Pull-outs: the search for the first one.
 pub mod marks;
+pub mod turn_table;
