@@ -1,0 +1,2 @@
+-- What follows from the crate's definitions.
+pub mod Reach
