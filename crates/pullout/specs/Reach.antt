@@ -7,11 +7,11 @@ use mathlib.Core.Bool.{Bool, cond, _||_}
 use mathlib.Core.List.{List}
 use Prim.Native.Nat.{ℕ, _+_, _*_, _≤_, _<_}
 use lib.Dec.{T, eqb}
-use lib.ListN.{length, getD}
+use lib.ListN.{getD}
 use Rattle.rules.specs.Plan.{Plan, section-count, end-A, len, is-free, touches, far, free-from}
 use Rattle.rules.proofs.Ways.{Fits}
 
--- no bound, no gate, or no way that comes there
+-- nothing is known: no bound, or no gate
 abbrev pub top : ℕ
 top = 4294967295
 
@@ -19,17 +19,17 @@ top = 4294967295
 unfoldable pub arrival-at : Plan → ℕ → ℕ → ℕ
 arrival-at y h p = 2 * h + cond (eqb (end-A y h) p) 0 1
 
--- The table has three parts of 2,048 numbers. For each arrival: its reach, more than which no train runs on from there
+-- The table has three parts of 2,048 numbers. For each arrival: its reach, the most that a train can run on from there
 unfoldable pub reach-at : Plan → List ℕ → ℕ → ℕ → ℕ
 reach-at y bounds h p = getD bounds (arrival-at y h p) 0
 
--- its gate, a point that each way to it has passed
+-- its gate, a point that each try has passed when it comes there
 unfoldable pub gate-at : Plan → List ℕ → ℕ → ℕ → ℕ
 gate-at y bounds h p = getD bounds (2048 + arrival-at y h p) 0
 
--- and the length that each way to it has behind it at least
-unfoldable pub behind-at : Plan → List ℕ → ℕ → ℕ → ℕ
-behind-at y bounds h p = getD bounds (4096 + arrival-at y h p) 0
+-- and the most that a try has left when it comes there; with nothing left, none comes
+unfoldable pub left-at : Plan → List ℕ → ℕ → ℕ → ℕ
+left-at y bounds h p = getD bounds (4096 + arrival-at y h p) 0
 
 -- after a step from p, where the gate was g, the gate may be f: none, p itself, or still g
 pub data Follows (f g p : ℕ) : Type 0 where
@@ -37,32 +37,30 @@ pub data Follows (f g p : ℕ) : Type 0 where
   passed-now : f ≡ p → Follows f g p
   passed-before : f ≡ g → Follows f g p
 
-module _ (y : Plan) (need : ℕ) (bounds : List ℕ) where
-  -- what the bounds of the arrival over h at p ask of those beyond section e
+module _ (y : Plan) (bounds : List ℕ) where
+  -- what the arrival over h at p asks of the arrival beyond section e
   pub record Onward (h p e : ℕ) : Type 0 where
     pub gate : Follows (gate-at y bounds e (far y e p)) (gate-at y bounds h p) p
-    pub behind : behind-at y bounds e (far y e p) ≤ behind-at y bounds h p + len y e
-    pub reach : reach-at y bounds h p < top → len y e + reach-at y bounds e (far y e p) ≤ reach-at y bounds h p
+    pub left : left-at y bounds h p ≤ len y e + left-at y bounds e (far y e p)
+    pub reach : reach-at y bounds h p < left-at y bounds h p → len y e + reach-at y bounds e (far y e p) ≤ reach-at y bounds h p
 
-  -- the rule of that arrival, for a train of length need that enters section e next: where its gate shuts the far end of e, or the train
-  -- is pulled out before it comes there, nothing is asked beyond
+  -- the rule of the arrival over h at p for section e, entered next. A reach that is not below what may be left says nothing, and no
+  -- train goes on beyond e that is too short, or to a point that is the gate
   pub record Rule (h p e : ℕ) : Type 0 where
-    pub stop : behind-at y bounds h p < need → reach-at y bounds h p < top → free-from y e p ≤ reach-at y bounds h p
-    pub on : behind-at y bounds h p + len y e < need → T (is-free y e) → far y e p ≢ gate-at y bounds h p → Onward h p e
+    pub stop : reach-at y bounds h p < left-at y bounds h p → free-from y e p ≤ reach-at y bounds h p
+    pub on : len y e < left-at y bounds h p → T (is-free y e) → far y e p ≢ gate-at y bounds h p → Onward h p e
 
--- the table is right for trains of length need over sections that pass the test
-pub record Right (y : Plan) (may : ℕ → Bool) (need : ℕ) (bounds : List ℕ) : Type 0 where
-  pub long : length bounds ≡ 6144
-  pub low : need ≤ top
-  pub rule : (h p e : ℕ) → h < section-count y → T (touches y h p) → Fits y may h p e → Rule y need bounds h p e
+-- the table is right for tries over sections that pass the test
+pub record Right (y : Plan) (may : ℕ → Bool) (bounds : List ℕ) : Type 0 where
+  pub rule : (h p e : ℕ) → h < section-count y → T (touches y h p) → Fits y may h p e → Rule y bounds h p e
 
--- a pull-out may begin at the arrival over c at p
-pub record Begins (y : Plan) (bounds : List ℕ) (c p : ℕ) : Type 0 where
+-- the first try, for the length n, may begin at the arrival over c at p
+pub record Begins (y : Plan) (bounds : List ℕ) (n c p : ℕ) : Type 0 where
   pub gate : gate-at y bounds c p ≡ top
-  pub behind : behind-at y bounds c p ≡ 0
+  pub left : n ≤ left-at y bounds c p
 
--- a try that has come to the arrival over h at p, with these marks and the length r left, has passed the gate and has run what it must have
-pub record Held (y : Plan) (need : ℕ) (bounds : List ℕ) (marks : ℕ → Bool) (r h p : ℕ) : Type 0 where
+-- a try with these marks and the length r left, which has come to the arrival over h at p, keeps to what the table says of it
+pub record Held (y : Plan) (bounds : List ℕ) (marks : ℕ → Bool) (r h p : ℕ) : Type 0 where
   pub point : T (marks p)
   pub gate : T (eqb (gate-at y bounds h p) top || marks (gate-at y bounds h p))
-  pub behind : r + behind-at y bounds h p ≤ need
+  pub left : r ≤ left-at y bounds h p
