@@ -1,2 +1,3 @@
--- What follows from the crate's definitions.
+-- Laws that the functions' proofs cite.
+pub mod Marking
 pub mod Reach

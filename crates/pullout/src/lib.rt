@@ -1,1 +1,2 @@
-// Pull-outs: the search for one, and the bounds that cut the search short.
+// Pull-outs: the search for the first one, and the bounds that cut it short.
+pub mod marks;
