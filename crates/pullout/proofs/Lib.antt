@@ -1,3 +1,5 @@
 -- Laws that the functions' proofs cite.
 pub mod Marking
 pub mod Reach
+pub mod Arrivals
+pub mod Unknown

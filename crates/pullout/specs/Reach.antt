@@ -19,17 +19,21 @@ top = 4294967295
 unfoldable pub arrival-at : Plan → ℕ → ℕ → ℕ
 arrival-at y h p = 2 * h + cond (eqb (end-A y h) p) 0 1
 
--- The table has three parts of 2,048 numbers. For each arrival: its reach, the most that a train can run on from there
-unfoldable pub reach-at : Plan → List ℕ → ℕ → ℕ → ℕ
-reach-at y bounds h p = getD bounds (arrival-at y h p) 0
+-- its number in one of the table's three parts, each of 2,048 numbers
+unfoldable pub bound-at : Plan → List ℕ → ℕ → ℕ → ℕ → ℕ
+bound-at y bounds part h p = getD bounds (2048 * part + arrival-at y h p) 0
+
+-- its reach, the most that a train can run on from there
+abbrev pub reach-at : Plan → List ℕ → ℕ → ℕ → ℕ
+reach-at y bounds h p = bound-at y bounds 0 h p
 
 -- its gate, a point that each try has passed when it comes there
-unfoldable pub gate-at : Plan → List ℕ → ℕ → ℕ → ℕ
-gate-at y bounds h p = getD bounds (2048 + arrival-at y h p) 0
+abbrev pub gate-at : Plan → List ℕ → ℕ → ℕ → ℕ
+gate-at y bounds h p = bound-at y bounds 1 h p
 
--- and the most that a try has left when it comes there; with nothing left, none comes
-unfoldable pub left-at : Plan → List ℕ → ℕ → ℕ → ℕ
-left-at y bounds h p = getD bounds (4096 + arrival-at y h p) 0
+-- the most that a try has left when it comes there; with nothing left, none comes
+abbrev pub left-at : Plan → List ℕ → ℕ → ℕ → ℕ
+left-at y bounds h p = bound-at y bounds 2 h p
 
 -- after a step from p, where the gate was g, the gate may be f: none, p itself, or still g
 pub data Follows (f g p : ℕ) : Type 0 where
@@ -58,6 +62,10 @@ pub record Right (y : Plan) (may : ℕ → Bool) (bounds : List ℕ) : Type 0 wh
 pub record Begins (y : Plan) (bounds : List ℕ) (n c p : ℕ) : Type 0 where
   pub gate : gate-at y bounds c p ≡ top
   pub left : n ≤ left-at y bounds c p
+
+-- the table says nothing
+pub record Unknown (bounds : List ℕ) : Type 0 where
+  pub at : (i : ℕ) → i < 6144 → getD bounds i 0 ≡ top
 
 -- a try with these marks and the length r left, which has come to the arrival over h at p, keeps to what the table says of it
 pub record Held (y : Plan) (bounds : List ℕ) (marks : ℕ → Bool) (r h p : ℕ) : Type 0 where
