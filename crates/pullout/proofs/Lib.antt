@@ -4,3 +4,4 @@ pub mod TurnsByPoint
 pub mod Reach
 pub mod Arrivals
 pub mod Unknown
+pub mod Entering
