@@ -2,4 +2,5 @@
 pub mod bounds;
 pub mod look;
 pub mod marks;
+pub mod search;
 pub mod turn_table;
