@@ -1,5 +1,6 @@
 -- Laws that the functions' proofs cite.
 pub mod Marking
+pub mod TurnsByPoint
 pub mod Reach
 pub mod Arrivals
 pub mod Unknown
