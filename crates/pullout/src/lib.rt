@@ -1,4 +1,8 @@
 // Pull-outs: the search for the first one, and the bounds that cut it short.
 pub mod bounds;
+mod gates;
 pub mod marks;
+mod onward;
+mod runs;
+mod spread;
 pub mod turn_table;
