@@ -14,14 +14,14 @@ pub all-top : Unknown (replicate 6144 top)
 all-top = record { at = λ i l. getD-replicate 6144 i top 0 l }
 
 module _ (y : Plan) {bounds : List ℕ} (few : section-count y ≤ 1024) (unknown : Unknown bounds) where
-  bound-top : (part h p : ℕ) → part < 3 → h < section-count y → bound-at y bounds part h p ≡ top
+  bound-top : (part h p : ℕ) → part < 3 → h < section-count y → bound-at (y .sections) bounds part h p ≡ top
   unfolding bound-at
-  bound-top part h p l k = unknown .at (2048 * part + arrival-at y h p) (omega (arith, arrival-low y h p (omega arith)))
+  bound-top part h p l k = unknown .at (2048 * part + arrival-at (y .sections) h p) (omega (arith, arrival-low (y .sections) h p (omega arith)))
 
   pub unknown-right : (may : ℕ → Bool) → Right y may bounds
   unknown-right may = record { rule = λ h p e l at fits. rule h p e l (fits .inside) }
     where
-      rule : (h p e : ℕ) → h < section-count y → e < section-count y → Rule y bounds h p e
+      rule : (h p e : ℕ) → h < section-count y → e < section-count y → Rule (y .sections) bounds h p e
       rule h p e l k =
           let reach = bound-top 0 h p (omega arith) l in
           let left = bound-top 2 h p (omega arith) l in

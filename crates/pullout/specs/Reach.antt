@@ -8,7 +8,7 @@ use mathlib.Core.List.{List}
 use Prim.Native.Nat.{ℕ, _+_, _*_, _≤_, _<_}
 use lib.Dec.{T, eqb}
 use lib.ListN.{getD}
-use Rattle.rules.specs.Plan.{Plan, section-count, end-A, len, is-free, touches, far, free-from}
+use Rattle.rules.specs.Plan.{Plan, of-sections, section-count, end-A, len, is-free, touches, far, free-from}
 use Rattle.rules.proofs.Ways.{Fits}
 
 -- nothing is known: no bound, or no gate
@@ -16,24 +16,24 @@ abbrev pub top : ℕ
 top = 4294967295
 
 -- the number of the arrival over section h at its end p
-unfoldable pub arrival-at : Plan → ℕ → ℕ → ℕ
-arrival-at y h p = 2 * h + cond (eqb (end-A y h) p) 0 1
+unfoldable pub arrival-at : List ℕ → ℕ → ℕ → ℕ
+arrival-at ss h p = 2 * h + cond (eqb (end-A (of-sections ss) h) p) 0 1
 
 -- its number in one of the table's three parts, each of 2,048 numbers
-unfoldable pub bound-at : Plan → List ℕ → ℕ → ℕ → ℕ → ℕ
-bound-at y bounds part h p = getD bounds (2048 * part + arrival-at y h p) 0
+unfoldable pub bound-at : List ℕ → List ℕ → ℕ → ℕ → ℕ → ℕ
+bound-at ss bounds part h p = getD bounds (2048 * part + arrival-at ss h p) 0
 
 -- its reach, the most that a train can run on from there
 abbrev pub reach-at : Plan → List ℕ → ℕ → ℕ → ℕ
-reach-at y bounds h p = bound-at y bounds 0 h p
+reach-at y bounds h p = bound-at (y .sections) bounds 0 h p
 
 -- its gate, a point that each try has passed when it comes there
 abbrev pub gate-at : Plan → List ℕ → ℕ → ℕ → ℕ
-gate-at y bounds h p = bound-at y bounds 1 h p
+gate-at y bounds h p = bound-at (y .sections) bounds 1 h p
 
 -- the most that a try has left when it comes there; with nothing left, none comes
 abbrev pub left-at : Plan → List ℕ → ℕ → ℕ → ℕ
-left-at y bounds h p = bound-at y bounds 2 h p
+left-at y bounds h p = bound-at (y .sections) bounds 2 h p
 
 -- after a step from p, where the gate was g, the gate may be f: none, p itself, or still g
 pub data Follows (f g p : ℕ) : Type 0 where
@@ -41,22 +41,22 @@ pub data Follows (f g p : ℕ) : Type 0 where
   passed-now : f ≡ p → Follows f g p
   passed-before : f ≡ g → Follows f g p
 
-module _ (y : Plan) (bounds : List ℕ) where
+module _ (ss bounds : List ℕ) where
   -- what the arrival over h at p asks of the arrival beyond section e
   pub record Onward (h p e : ℕ) : Type 0 where
-    pub gate : Follows (gate-at y bounds e (far y e p)) (gate-at y bounds h p) p
-    pub left : left-at y bounds h p ≤ len y e + left-at y bounds e (far y e p)
-    pub reach : reach-at y bounds h p < left-at y bounds h p → len y e + reach-at y bounds e (far y e p) ≤ reach-at y bounds h p
+    pub gate : Follows (gate-at (of-sections ss) bounds e (far (of-sections ss) e p)) (gate-at (of-sections ss) bounds h p) p
+    pub left : left-at (of-sections ss) bounds h p ≤ len (of-sections ss) e + left-at (of-sections ss) bounds e (far (of-sections ss) e p)
+    pub reach : reach-at (of-sections ss) bounds h p < left-at (of-sections ss) bounds h p → len (of-sections ss) e + reach-at (of-sections ss) bounds e (far (of-sections ss) e p) ≤ reach-at (of-sections ss) bounds h p
 
   -- the rule of the arrival over h at p for section e, entered next. A reach that is not below what may be left says nothing, and no
   -- train goes on beyond e that is too short, or to a point that is the gate
   pub record Rule (h p e : ℕ) : Type 0 where
-    pub stop : reach-at y bounds h p < left-at y bounds h p → free-from y e p ≤ reach-at y bounds h p
-    pub on : len y e < left-at y bounds h p → T (is-free y e) → far y e p ≢ gate-at y bounds h p → Onward h p e
+    pub stop : reach-at (of-sections ss) bounds h p < left-at (of-sections ss) bounds h p → free-from (of-sections ss) e p ≤ reach-at (of-sections ss) bounds h p
+    pub on : len (of-sections ss) e < left-at (of-sections ss) bounds h p → T (is-free (of-sections ss) e) → far (of-sections ss) e p ≢ gate-at (of-sections ss) bounds h p → Onward h p e
 
 -- the table is right for tries over sections that pass the test
 pub record Right (y : Plan) (may : ℕ → Bool) (bounds : List ℕ) : Type 0 where
-  pub rule : (h p e : ℕ) → h < section-count y → T (touches y h p) → Fits y may h p e → Rule y bounds h p e
+  pub rule : (h p e : ℕ) → h < section-count y → T (touches y h p) → Fits y may h p e → Rule (y .sections) bounds h p e
 
 -- the first try, for the length n, may begin at the arrival over c at p
 pub record Begins (y : Plan) (bounds : List ℕ) (n c p : ℕ) : Type 0 where
