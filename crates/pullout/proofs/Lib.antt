@@ -8,3 +8,4 @@ pub mod Entering
 pub mod Trying
 pub mod ThreeSlots
 pub mod Going
+pub mod Finding

@@ -5,3 +5,4 @@ pub mod Tables
 pub mod Reach
 pub mod Looked
 pub mod Tried
+pub mod Searched
