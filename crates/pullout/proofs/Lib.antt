@@ -9,3 +9,5 @@ pub mod Trying
 pub mod ThreeSlots
 pub mod Going
 pub mod Finding
+pub mod Asking
+pub mod Copying

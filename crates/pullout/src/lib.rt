@@ -1,5 +1,7 @@
 // Pull-outs: the search for the first one, and the bounds that cut it short.
+mod asked;
 pub mod bounds;
+mod copy;
 mod gates;
 pub mod look;
 pub mod marks;
