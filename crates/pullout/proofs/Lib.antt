@@ -4,3 +4,5 @@ pub mod TurnsByPoint
 pub mod Reach
 pub mod Arrivals
 pub mod Unknown
+pub mod Entering
+pub mod Checking

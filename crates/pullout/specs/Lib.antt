@@ -1,4 +1,6 @@
--- What this crate says beyond the rules: the marks of a try, the tables that a search reads, and when a table of bounds is right.
+-- What this crate says beyond the rules: the marks of a try, the tables that a search reads, when a
+-- table of bounds is right, and what a look at a section tells.
 pub mod Marks
 pub mod Tables
 pub mod Reach
+pub mod Looked

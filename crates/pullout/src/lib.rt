@@ -1,8 +1,10 @@
 // Pull-outs: the search for the first one, and the bounds that cut it short.
 pub mod bounds;
 mod gates;
+pub mod look;
 pub mod marks;
 mod onward;
+mod right;
 mod runs;
 mod spread;
 pub mod turn_table;

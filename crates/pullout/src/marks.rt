@@ -9,7 +9,7 @@ use plan::read::wide;
 
 pub struct Try {
     marks: [u8; 768],
-    left: u32,
+    pub left: u32,
 }
 
 // The try has passed point q.
