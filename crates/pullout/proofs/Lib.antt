@@ -5,4 +5,7 @@ pub mod Reach
 pub mod Arrivals
 pub mod Unknown
 pub mod Entering
+pub mod Trying
+pub mod ThreeSlots
+pub mod Going
 pub mod Checking

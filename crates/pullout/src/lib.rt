@@ -6,5 +6,6 @@ pub mod marks;
 mod onward;
 mod right;
 mod runs;
+pub mod search;
 mod spread;
 pub mod turn_table;

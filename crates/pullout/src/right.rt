@@ -6,8 +6,7 @@ ghost use Rattle.rules.specs.Plan.{plan-of, of-sections, far};
 ghost use Rattle.rules.specs.PullOut.{any-section};
 ghost use Rattle.rules.proofs.Ways.{may-use};
 ghost use Rattle.pullout.specs.Tables.{Passes, TurnTable, Tables, Arrived};
-ghost use Rattle.pullout.specs.Looked.{Enters};
-ghost use Rattle.pullout.specs.Reach.{Follows, Onward, Rule, Right};
+ghost use Rattle.pullout.specs.Reach.{Follows, Onward, Rule, RightAt, Right};
 use crate::bounds::GATE;
 use crate::bounds::LEFT;
 use crate::bounds::REACH;
@@ -108,4 +107,111 @@ fn right_rule(sections: &[u32], bounds: &[u32; 6144], h: u32, p: u32, e: u32) ->
         return true;
     }
     right_onward(sections, bounds, h, p, e, q)
+}
+
+// The same, where section e may be entered next in a pull-out for the turn from c to s.
+fn right_section(
+    sections: &[u32],
+    turns: &[u32],
+    table: &[u32; 1536],
+    bounds: &[u32; 6144],
+    c: u32,
+    s: u32,
+    h: u32,
+    p: u32,
+    e: u32,
+) -> bool
+    requires { ⌜ Passes (now sections) (now turns) × TurnTable (now sections) (now turns) (now table) × Arrived (now sections) h p ⌝ }
+    ensures { λ r. ⌜ (r ≡ true → RightAt (now (sections .entry)) (now (turns .entry)) (now (bounds .entry)) c s h p e) ⌝ }
+{
+    if !may_enter(sections, turns, table, c, s, h, p, e) {
+        return true;
+    }
+    right_rule(sections, bounds, h, p, e)
+}
+
+// The rule of the arrival over h at p. Where no try comes, it asks nothing.
+fn right_arrival(
+    sections: &[u32],
+    turns: &[u32],
+    slots: &[u32; 2304],
+    table: &[u32; 1536],
+    bounds: &[u32; 6144],
+    c: u32,
+    s: u32,
+    h: u32,
+    p: u32,
+) -> bool
+    requires { ⌜ Tables (now sections) (now turns) (now slots) (now table) × Arrived (now sections) h p ⌝ }
+    ensures { λ r. ⌜ (r ≡ true → (e : ℕ) → RightAt (now (sections .entry)) (now (turns .entry)) (now (bounds .entry)) c s h p e) ⌝ }
+{
+    if bound_at(sections, bounds, LEFT, h, p) == 0 {
+        return true;
+    }
+    if !right_section(
+        sections,
+        turns,
+        table,
+        bounds,
+        c,
+        s,
+        h,
+        p,
+        slot_at(slots, p, 0),
+    ) {
+        return false;
+    }
+    if !right_section(
+        sections,
+        turns,
+        table,
+        bounds,
+        c,
+        s,
+        h,
+        p,
+        slot_at(slots, p, 1),
+    ) {
+        return false;
+    }
+    right_section(
+        sections,
+        turns,
+        table,
+        bounds,
+        c,
+        s,
+        h,
+        p,
+        slot_at(slots, p, 2),
+    )
+}
+
+// The rule of every arrival.
+pub(crate) fn right_everywhere(
+    sections: &[u32],
+    turns: &[u32],
+    slots: &[u32; 2304],
+    table: &[u32; 1536],
+    bounds: &[u32; 6144],
+    c: u32,
+    s: u32,
+) -> bool
+    requires { ⌜ Tables (now sections) (now turns) (now slots) (now table) ⌝ }
+    ensures { λ r. ⌜ (r ≡ true → Right (plan-of 0 (now (sections .entry)) (now (turns .entry))) (may-use any-section c s) (now (bounds .entry))) ⌝ }
+{
+    let count = section_count(sections);
+    let mut h = 0;
+    while h < count {
+        let a = section_number(sections, h, END_A);
+        if !right_arrival(sections, turns, slots, table, bounds, c, s, h, a) {
+            return false;
+        }
+        let b = section_number(sections, h, END_B);
+        if !right_arrival(sections, turns, slots, table, bounds, c, s, h, b) {
+            return false;
+        }
+        h += 1;
+    }
+    true
 }
