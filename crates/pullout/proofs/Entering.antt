@@ -43,12 +43,12 @@ abbrev pub entry : List ℕ → List ℕ → ℕ → ℕ → ℕ → ℕ → ℕ
 entry ss ts c s h p e = ltb e (section-count (plan-of 0 ss ts)) && fits (plan-of 0 ss ts) (may-use any-section c s) h p e
 
 module _ (ss ts : List ℕ) (c s h p e : ℕ) where
-  entry-T : T (entry ss ts c s h p e) → Enters ss ts c s h p e
+  pub entry-T : T (entry ss ts c s h p e) → Enters ss ts c s h p e
   entry-T t =
       let u = and-T (ltb e (section-count (plan-of 0 ss ts))) (fits (plan-of 0 ss ts) (may-use any-section c s) h p e) t in
       fits-T (plan-of 0 ss ts) (may-use any-section c s) h p e (ltb→lt e (section-count (plan-of 0 ss ts)) (u .0)) (u .1)
 
-  T-entry : Enters ss ts c s h p e → T (entry ss ts c s h p e)
+  pub T-entry : Enters ss ts c s h p e → T (entry ss ts c s h p e)
   T-entry f =
       T-and (ltb e (section-count (plan-of 0 ss ts))) (fits (plan-of 0 ss ts) (may-use any-section c s) h p e)
       (lt→ltb e (section-count (plan-of 0 ss ts)) (f .inside)) (T-fits (plan-of 0 ss ts) (may-use any-section c s) f)

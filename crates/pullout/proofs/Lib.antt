@@ -11,3 +11,4 @@ pub mod Going
 pub mod Finding
 pub mod Asking
 pub mod Copying
+pub mod Checking

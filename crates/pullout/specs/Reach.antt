@@ -8,8 +8,9 @@ use mathlib.Core.List.{List}
 use Prim.Native.Nat.{ℕ, _+_, _*_, _≤_, _<_}
 use lib.Dec.{T, eqb}
 use lib.ListN.{getD}
-use Rattle.rules.specs.Plan.{Plan, of-sections, section-count, end-A, len, is-free, touches, far, free-from}
-use Rattle.rules.proofs.Ways.{Fits}
+use Rattle.rules.specs.Plan.{Plan, plan-of, of-sections, section-count, end-A, len, is-free, touches, far, free-from}
+use Rattle.rules.specs.PullOut.{any-section}
+use Rattle.rules.proofs.Ways.{may-use, Fits}
 
 -- nothing is known: no bound, or no gate
 abbrev pub top : ℕ
@@ -57,6 +58,10 @@ module _ (ss bounds : List ℕ) where
 -- the table is right for tries over sections that pass the test
 pub record Right (y : Plan) (may : ℕ → Bool) (bounds : List ℕ) : Type 0 where
   pub rule : (h p e : ℕ) → h < section-count y → T (touches y h p) → Fits y may h p e → Rule (y .sections) bounds h p e
+
+-- the rule of the arrival over h at p for section e, where that may be entered next in a pull-out for the turn from c to s
+pub record RightAt (ss ts bounds : List ℕ) (c s h p e : ℕ) : Type 0 where
+  pub rule : Fits (plan-of 0 ss ts) (may-use any-section c s) h p e → Rule ss bounds h p e
 
 -- the first try, for the length n, may begin at the arrival over c at p
 pub record Begins (y : Plan) (bounds : List ℕ) (n c p : ℕ) : Type 0 where

@@ -6,6 +6,7 @@ mod gates;
 pub mod look;
 pub mod marks;
 mod onward;
+mod right;
 mod runs;
 pub mod search;
 mod spread;
