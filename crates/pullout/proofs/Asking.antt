@@ -51,7 +51,7 @@ module _ (ss : List ℕ) (a s : ℕ) where
         → t ≡ touches (of-sections ss) s p → t ≡ met ss a s
     meet-there f m i g = and-on (and-on (was-true (e ∙ half-low a (section-count (of-sections ss))) n) (was-true f m)) (rw i at g)
 
-  both-there : true ≡ met ss a s → (a / 2 < section-count (of-sections ss)) × Arrived ss s (to-point (of-sections ss) a)
+  pub both-there : true ≡ met ss a s → (a / 2 < section-count (of-sections ss)) × Arrived ss s (to-point (of-sections ss) a)
   both-there e =
       let n = section-count (of-sections ss) in
       let t = and-T (ltb a (2 * n) && ltb s n) (touches (of-sections ss) s (to-point (of-sections ss) a)) (rw (← e) tt) in

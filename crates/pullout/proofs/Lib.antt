@@ -12,3 +12,4 @@ pub mod Finding
 pub mod Asking
 pub mod Copying
 pub mod Checking
+pub mod Answering
