@@ -8,12 +8,12 @@ use Prim.Native.Nat.{ℕ, _-_, _≤_, _<_}
 use native.Mathlib.Omega.{arith}
 use borrow.Author.Tests.{not-true, not-false}
 use lib.Dec.{T, eqb, ltb, ltb→lt, lt→ltb}
-use Rattle.rules.specs.Plan.{plan-of, of-sections, section-count, len, is-free, touches, far, free-from, forbidden}
+use Rattle.rules.specs.Plan.{plan-of, section-count, len, is-free, touches, far, free-from, forbidden}
 use Rattle.rules.specs.PullOut.{any-section}
 use Rattle.rules.proofs.Tests.{tests, clash, fails, and-T, T-and, gives-true, gives-false, gives-same, says-true, says-false}
-use Rattle.rules.proofs.Sound.{sound-plan}
 use Rattle.rules.proofs.Ways.{may-use, way-fits, way-onward, free-whole}
 use Rattle.rules.proofs.PullSearch.{fits, fits-T, T-fits}
+use Rattle.plan.specs.Ends.{Joined}
 use Rattle.plan.proofs.Known.{plan-joined}
 use Rattle.plan.proofs.Touching.{touch-below}
 use Rattle.pullout.specs.declared.marks.Try.{Try}
@@ -23,17 +23,20 @@ use Rattle.pullout.specs.Tables.{Passes, TurnTable, forbidden-by, Arrive
 use Rattle.pullout.specs.Reach.{reach-at}
 use Rattle.pullout.specs.Looked.{Enters, Goes, GoesOn, Looked, Bounded}
 use Rattle.pullout.proofs.TurnsByPoint.{by-table}
-use Rattle.pullout.proofs.Reach.{far-point, cut}
+use Rattle.pullout.proofs.Reach.{at-far, cut}
 
--- an arrival is at a point, and the far end of a section is one
+-- what the passed checks say of the sections
+pub passed-joined : {ss ts : List ℕ} → Passes ss ts → Joined ss
+passed-joined {ss} {ts} ok = plan-joined (plan-of (ok .points) ss ts) (ok .passes)
+
 pub arrived-low : {ss ts : List ℕ} {h p : ℕ} → Passes ss ts → Arrived ss h p → p < 768
-arrived-low {ss} {ts} {h} {p} ok a = touch-below (plan-joined (plan-of (ok .points) ss ts) (ok .passes) .each h (a .inside)) p (a .touch)
+arrived-low {h} {p} ok a = touch-below (passed-joined ok .each h (a .inside)) p (a .touch)
 
 pub far-low : {ss ts : List ℕ} → Passes ss ts → (e p : ℕ) → e < section-count (plan-of 0 ss ts) → far (plan-of 0 ss ts) e p < 768
-far-low {ss} {ts} ok = far-point {y = plan-of (ok .points) ss ts} (sound-plan (ok .passes))
+far-low {ss} {ts} ok e p l = touch-below (passed-joined ok .each e l) (far (plan-of 0 ss ts) e p) (at-far (plan-of 0 ss ts) e p)
 
 pub section-low : {ss ts : List ℕ} {e : ℕ} → Passes ss ts → e < section-count (plan-of 0 ss ts) → e < 1024
-section-low {ss} {ts} ok l = omega (arith, sound-plan {y = plan-of (ok .points) ss ts} (ok .passes) .few-sections)
+section-low ok l = omega (arith, passed-joined ok .few)
 
 -- the test that a section is one of the plan's and may be entered
 abbrev pub entry : List ℕ → List ℕ → ℕ → ℕ → ℕ → ℕ → ℕ → Bool
@@ -145,7 +148,7 @@ module _ (ss ts : List ℕ) (c s : ℕ) (t : Try) (h p e : ℕ) where
     pub on-fits : n ≤ t .left
     on-fits = omega (arith, g .short, g .long, free-whole (plan-of 0 ss ts) e p (g .free))
 
-    pub cut-off : {bounds : List ℕ} {x : ℕ} → Passes ss ts → Arrived ss h p → Bounded ss ts bounds c s t h p → x ≡ reach-at (of-sections ss) bounds e q
+    pub cut-off : {bounds : List ℕ} {x : ℕ} → Passes ss ts → Arrived ss h p → Bounded ss ts bounds c s t h p → x ≡ reach-at (plan-of 0 ss ts) bounds e q
         → x < t .left - n → Looked ss ts c s t h p e Shut
-    cut-off {bounds} ok a b i l qs w =
-        cut (far-low ok) (b .right) (a .inside) (a .touch) (b .held) (g .short) (rw (← (g .far), ← (g .long), ← i) l) w
+    cut-off ok a b i l qs w =
+        cut (passed-joined ok) (b .right) (a .inside) (a .touch) (b .held) (g .short) (rw (← (g .far), ← (g .long), ← i) l) w

@@ -8,4 +8,5 @@ pub mod Entering
 pub mod Trying
 pub mod ThreeSlots
 pub mod Going
+pub mod Finding
 pub mod Checking

@@ -10,7 +10,7 @@ use native.Mathlib.Omega.{arith}
 use native.Mathlib.Decide.{ℕ-discrete}
 use borrow.Author.Tests.{eq-eqb, ne-eqb}
 use lib.Dec.{T, eqb}
-use lib.ListN.{length, getD, set, length-set, replicate, length-replicate, getD-replicate}
+use lib.ListN.{length, getD, set, length-set, replicate, length-replicate}
 use lib.Seq.{getD-set-same, getD-set-other}
 use Rattle.rules.specs.Ranges.{count-of}
 use Rattle.rules.proofs.Tests.{gives-true}
@@ -74,10 +74,15 @@ put-one ms q l k = go (ℕ-discrete k q)
     go (yes e) = rw (eq-eqb k q e, e, getD-set-same ms q 1 0 l) refl
     go (no e) = rw (ne-eqb k q e, getD-set-other ms q k 1 0 e) refl
 
+-- no marks
+no-mark : (n k : ℕ) → _≡_ {A = ℕ} (getD (replicate n 0) k 0) 0
+no-mark zero k = refl
+no-mark (suc n) zero = refl
+no-mark (suc n) (suc k) = no-mark n k
+
 -- the first try: of n points the mark of one is put
-begun-marks : (n p : ℕ) → p < n → (k : ℕ) → k < n → put-in (set (replicate n 0) p 1) k ≡ only p k
-begun-marks n p l k h =
-    put-one (replicate n 0) p (rw (length-replicate {A = ℕ} n 0) l) k ∙ rw (getD-replicate {A = ℕ} n k 0 0 h) (or-false (eqb k p))
+begun-marks : (n p : ℕ) → p < n → (k : ℕ) → put-in (set (replicate n 0) p 1) k ≡ only p k
+begun-marks n p l k = put-one (replicate n 0) p (rw (length-replicate {A = ℕ} n 0) l) k ∙ rw (no-mark n k) (or-false (eqb k p))
   where
     or-false : (b : Bool) → (b || false) ≡ b
     or-false true = refl
@@ -90,8 +95,8 @@ begun {t} {n} {p} l e i =
     record {
       covers = rw (e, length-set) (length-replicate {A = ℕ} 768 0);
       left = i;
-      marks = λ k h. rw e (marks k h);
-      fewer = rw e (count-less (λ k. not (put-in (set (replicate 768 0) p 1) k)) p 768 l (rw (marks p l, eq-eqb p p refl) refl));
+      marks = λ k. rw e (marks k);
+      fewer = rw e (count-less (λ k. not (put-in (set (replicate 768 0) p 1) k)) p 768 l (rw (marks p, eq-eqb p p refl) refl));
     }
 
 -- of the first m points one fewer is left

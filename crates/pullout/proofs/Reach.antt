@@ -8,24 +8,18 @@ use native.Mathlib.Omega.{arith}
 use lib.Dec.{T, eqb, eqb→eq, eqb-refl}
 use Rattle.rules.specs.Plan.{Plan, section-count, end-A, end-B, len, is-free, touches, far, free-from}
 use Rattle.rules.proofs.Tests.{clash, or-T, T-or-left, T-or-right}
-use Rattle.rules.proofs.Sound.{SoundPlan}
 use Rattle.rules.proofs.Ways.{only, mark, Fits, Way, last, next, mark-put, mark-stays, free-whole, way-fits, way-onward}
+use Rattle.plan.specs.Ends.{Joined}
+use Rattle.plan.proofs.Touching.{touch-below}
 use Rattle.pullout.specs.Reach.{top, reach-at, gate-at, Follows, none-known, passed-now, passed-before, Onward, Right, Begins, Held}
 
--- the far end of a section is an end of it, and a point
+-- the far end of a section is an end of it
 pub at-far : (y : Plan) (e p : ℕ) → T (touches y e (far y e p))
 at-far y e p = go (eqb (end-A y e) p)
   where
     go : (b : Bool) → T (touches y e (cond b (end-B y e) (end-A y e)))
     go true = T-or-right (eqb (end-A y e) (end-B y e)) (eqb (end-B y e) (end-B y e)) (eqb-refl (end-B y e))
     go false = T-or-left (eqb (end-A y e) (end-A y e)) (eqb (end-B y e) (end-A y e)) (eqb-refl (end-A y e))
-
-pub far-point : {y : Plan} → SoundPlan y → (e p : ℕ) → e < section-count y → far y e p < 768
-far-point {y} sound e p l = let s = sound .each-section e l in go (eqb (end-A y e) p) (omega (arith, sound .few-points)) (omega (arith, sound .few-points))
-  where
-    go : (b : Bool) → end-A y e < 768 → end-B y e < 768 → cond b (end-B y e) (end-A y e) < 768
-    go true a b = b
-    go false a b = a
 
 -- with more marks a try keeps to no less
 pub held-marks : {y : Plan} {bounds : List ℕ} {marks more : ℕ → Bool} {r h p : ℕ} → ((k : ℕ) → T (marks k) → T (more k)) → Held y bounds marks r h p
@@ -48,7 +42,7 @@ gate-marked {f} {p} q marks (passed-now e) m k = T-or-right (eqb f top) (mark q 
 gate-marked {f} {g} q marks (passed-before e) m k =
     rw e (⊎-elim (T-or-left (eqb g top) (mark q marks g)) (λ t. T-or-right (eqb g top) (mark q marks g) (mark-stays q marks g t)) (or-T (eqb g top) (marks g) k))
 
-module _ {y : Plan} {may : ℕ → Bool} {bounds : List ℕ} (low : (e p : ℕ) → e < section-count y → far y e p < 768) (right : Right y may bounds) where
+module _ {y : Plan} {may : ℕ → Bool} {bounds : List ℕ} (joined : Joined (y .sections)) (right : Right y may bounds) where
   -- a try at the arrival over h at p goes on over section e
   module _ {marks : ℕ → Bool} {r h p e : ℕ} (l : h < section-count y) (at : T (touches y h p)) (held : Held y bounds marks r h p)
       (fits : Fits y may h p e) (free : T (is-free y e)) (short : len y e < r) (new : T (not (marks (far y e p)))) where
@@ -56,7 +50,7 @@ module _ {y : Plan} {may : ℕ → Bool} {bounds : List ℕ} (low : (e p : ℕ) 
     not-gate : far y e p ≢ gate-at y bounds h p
     not-gate z =
         let g = gate-at y bounds h p in
-        ⊎-elim (λ t. let k = eqb→eq g top t in omega (arith, low e p (fits .inside))) (λ t. clash (marks (far y e p)) (rw z t) new)
+        ⊎-elim (λ t. let k = eqb→eq g top t in omega (arith, touch-below (joined .each e (fits .inside)) (far y e p) (at-far y e p))) (λ t. clash (marks (far y e p)) (rw z t) new)
         (or-T (eqb g top) (marks g) (held .gate))
 
     onward : Onward (y .sections) bounds h p e

@@ -25,7 +25,7 @@ unmarked t = count-of (λ k. not (marked t k)) 0 768
 pub record Begun (p n : ℕ) (r : Try) : Type 0 where
   pub covers : Covers r
   pub left : r .left ≡ n
-  pub marks : (k : ℕ) → k < 768 → marked r k ≡ only p k
+  pub marks : (k : ℕ) → marked r k ≡ only p k
   pub fewer : unmarked r < 768
 
 -- the try r goes on from t past point q, over a section of length n

@@ -1,5 +1,6 @@
 // Pull-outs: the search for the first one, and the bounds that cut it short.
 pub mod bounds;
+pub mod cut;
 mod gates;
 pub mod look;
 pub mod marks;

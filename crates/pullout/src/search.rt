@@ -1,15 +1,18 @@
 // The search for the first pull-out: trying a point tries its sections, trying a section tries its far point. The marks of the
 // points passed go along with each try, so the number of unmarked points falls. `cut` is
 // the table of bounds.
-ghost use Prim.Native.Nat.{_+_, _<_};
+ghost use Prim.Native.Nat.{ℕ, _+_, _≤_, _<_};
 ghost use lib.ListN.{length};
+ghost use Rattle.rules.specs.Plan.{plan-of};
 ghost use Rattle.pullout.specs.Marks.{Covers, unmarked};
 ghost use Rattle.pullout.specs.Tables.{Tables, Arrived};
 ghost use Rattle.pullout.specs.Looked.{Goes, Bounded};
 ghost use Rattle.pullout.specs.Tried.{Over, Tried};
+ghost use Rattle.pullout.specs.Searched.{Searched, Suits};
 use crate::look::Look;
 use crate::look::look_ahead;
 use crate::marks::Try;
+use crate::marks::first_try;
 use crate::marks::go_past;
 use plan::slots::slot_at;
 
@@ -83,4 +86,25 @@ fn try_section(
             found
         }
     }
+}
+
+// The first pull-out for the turn from section c to section s at p, that takes the length need: its sections are written into the
+// front of the lent list, and the answer is how many, or 0.
+pub fn first_pull_out(
+    sections: &[u32],
+    turns: &[u32],
+    slots: &[u32; 2304],
+    table: &[u32; 1536],
+    cut: &[u32; 6144],
+    out: &mut [u32],
+    need: u32,
+    c: u32,
+    p: u32,
+    s: u32,
+) -> usize
+    requires { ⌜ Tables (now sections) (now turns) (now slots) (now table) × Arrived (now sections) c p × Suits (now sections) (now turns) (now cut) need c p s × (0 < need) × (768 ≤ length (now out)) ⌝ }
+    ensures { λ r. ⌜ ((v : ℕ) → Searched (plan-of v (now (sections .entry)) (now (turns .entry))) need c p s (now (out .entry)) r (now (out .exit))) ⌝ }
+{
+    let t = first_try(p, need);
+    try_point(sections, turns, slots, table, cut, out, t, c, s, c, p, 0)
 }
