@@ -151,7 +151,7 @@ module _ (ss ts : List ℕ) (c s : ℕ) (t : Try) (h p e : ℕ) where
     pub on-fits : n ≤ t .left
     on-fits = omega (arith, g .short, g .long, free-whole (plan-of 0 ss ts) e p (g .free))
 
-    pub cut-off : {bounds : List ℕ} {x : ℕ} → Passes ss ts → Arrived ss h p → Bounded ss ts bounds c s t h p → x ≡ reach-at (plan-of 0 ss ts) bounds e q
+    pub cut-off : {bounds : List ℕ} {x : ℕ} → Passes ss ts → Arrived ss h p → Bounded ss ts bounds c s t h p → x ≡ reach-at ss bounds e q
         → x < t .left - n → Looked ss ts c s t h p e Shut
     cut-off ok a b i l qs w =
         cut (passed-joined ok) (b .right) (a .inside) (a .touch) (b .held) (g .short) (rw (← (g .far), ← (g .long), ← i) l) w

@@ -25,7 +25,7 @@ at-far y e p = go (eqb (end-A y e) p)
 pub held-marks : {y : Plan} {bounds : List ℕ} {marks more : ℕ → Bool} {r h p : ℕ} → ((k : ℕ) → T (marks k) → T (more k)) → Held y bounds marks r h p
     → Held y bounds more r h p
 held-marks {y} {bounds} {marks} {more} {h} {p} f held =
-    let g = gate-at y bounds h p in
+    let g = gate-at (y .sections) bounds h p in
     record {
       point = f p (held .point);
       gate = ⊎-elim (T-or-left (eqb g top) (more g)) (λ t. T-or-right (eqb g top) (more g) (f g t)) (or-T (eqb g top) (marks g) (held .gate));
@@ -47,9 +47,9 @@ module _ {y : Plan} {may : ℕ → Bool} {bounds : List ℕ} (joined : Joined (y
   module _ {marks : ℕ → Bool} {r h p e : ℕ} (l : h < section-count y) (at : T (touches y h p)) (held : Held y bounds marks r h p)
       (fits : Fits y may h p e) (free : T (is-free y e)) (short : len y e < r) (new : T (not (marks (far y e p)))) where
     -- a point without a mark is not the gate
-    not-gate : far y e p ≢ gate-at y bounds h p
+    not-gate : far y e p ≢ gate-at (y .sections) bounds h p
     not-gate z =
-        let g = gate-at y bounds h p in
+        let g = gate-at (y .sections) bounds h p in
         ⊎-elim (λ t. let k = eqb→eq g top t in omega (arith, touch-below (joined .each e (fits .inside)) (far y e p) (at-far y e p))) (λ t. clash (marks (far y e p)) (rw z t) new)
         (or-T (eqb g top) (marks g) (held .gate))
 
@@ -65,7 +65,7 @@ module _ {y : Plan} {may : ℕ → Bool} {bounds : List ℕ} (joined : Joined (y
         }
 
   -- a try that has more left than the reach is in vain
-  pub no-way : {marks : ℕ → Bool} {r h p : ℕ} {qs : List ℕ} → h < section-count y → T (touches y h p) → Held y bounds marks r h p → reach-at y bounds h p < r
+  pub no-way : {marks : ℕ → Bool} {r h p : ℕ} {qs : List ℕ} → h < section-count y → T (touches y h p) → Held y bounds marks r h p → reach-at (y .sections) bounds h p < r
       → Way y may r h p marks qs → ⊥
   no-way {h} {p} l at held long (last {q} fits e) = omega (arith, right .rule h p q l at fits .stop (omega (arith, held .left)))
   no-way {h} {p} l at held long (next {q} fits free short new w) =
@@ -74,7 +74,7 @@ module _ {y : Plan} {may : ℕ → Bool} {bounds : List ℕ} (joined : Joined (y
 
   -- so no way begins with a section that is too short to be the last, and beyond which more is left than the reach
   pub cut : {marks : ℕ → Bool} {r h p e : ℕ} {qs : List ℕ} → h < section-count y → T (touches y h p) → Held y bounds marks r h p → free-from y e p < r
-      → reach-at y bounds e (far y e p) < r - len y e → Way y may r h p marks (e ∷ qs) → ⊥
+      → reach-at (y .sections) bounds e (far y e p) < r - len y e → Way y may r h p marks (e ∷ qs) → ⊥
   cut {p} {e} l at held less long w =
       let o = way-onward less w in
       let k = free-whole y e p (o .0) in

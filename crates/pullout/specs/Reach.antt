@@ -25,16 +25,16 @@ unfoldable pub bound-at : List ℕ → List ℕ → ℕ → ℕ → ℕ → ℕ
 bound-at ss bounds part h p = getD bounds (2048 * part + arrival-at ss h p) 0
 
 -- its reach, the most that a train can run on from there
-abbrev pub reach-at : Plan → List ℕ → ℕ → ℕ → ℕ
-reach-at y bounds h p = bound-at (y .sections) bounds 0 h p
+abbrev pub reach-at : List ℕ → List ℕ → ℕ → ℕ → ℕ
+reach-at ss bounds h p = bound-at ss bounds 0 h p
 
 -- its gate, a point that each try has passed when it comes there
-abbrev pub gate-at : Plan → List ℕ → ℕ → ℕ → ℕ
-gate-at y bounds h p = bound-at (y .sections) bounds 1 h p
+abbrev pub gate-at : List ℕ → List ℕ → ℕ → ℕ → ℕ
+gate-at ss bounds h p = bound-at ss bounds 1 h p
 
 -- the most that a try has left when it comes there; with nothing left, none comes
-abbrev pub left-at : Plan → List ℕ → ℕ → ℕ → ℕ
-left-at y bounds h p = bound-at (y .sections) bounds 2 h p
+abbrev pub left-at : List ℕ → List ℕ → ℕ → ℕ → ℕ
+left-at ss bounds h p = bound-at ss bounds 2 h p
 
 -- after a step from p, where the gate was g, the gate may be f: none, p itself, or still g
 pub data Follows (f g p : ℕ) : Type 0 where
@@ -45,15 +45,15 @@ pub data Follows (f g p : ℕ) : Type 0 where
 module _ (ss bounds : List ℕ) where
   -- what the arrival over h at p asks of the arrival beyond section e
   pub record Onward (h p e : ℕ) : Type 0 where
-    pub gate : Follows (gate-at (of-sections ss) bounds e (far (of-sections ss) e p)) (gate-at (of-sections ss) bounds h p) p
-    pub left : left-at (of-sections ss) bounds h p ≤ len (of-sections ss) e + left-at (of-sections ss) bounds e (far (of-sections ss) e p)
-    pub reach : reach-at (of-sections ss) bounds h p < left-at (of-sections ss) bounds h p → len (of-sections ss) e + reach-at (of-sections ss) bounds e (far (of-sections ss) e p) ≤ reach-at (of-sections ss) bounds h p
+    pub gate : Follows (gate-at ss bounds e (far (of-sections ss) e p)) (gate-at ss bounds h p) p
+    pub left : left-at ss bounds h p ≤ len (of-sections ss) e + left-at ss bounds e (far (of-sections ss) e p)
+    pub reach : reach-at ss bounds h p < left-at ss bounds h p → len (of-sections ss) e + reach-at ss bounds e (far (of-sections ss) e p) ≤ reach-at ss bounds h p
 
   -- the rule of the arrival over h at p for section e, entered next. A reach that is not below what may be left says nothing, and no
   -- train goes on beyond e that is too short, or to a point that is the gate
   pub record Rule (h p e : ℕ) : Type 0 where
-    pub stop : reach-at (of-sections ss) bounds h p < left-at (of-sections ss) bounds h p → free-from (of-sections ss) e p ≤ reach-at (of-sections ss) bounds h p
-    pub on : len (of-sections ss) e < left-at (of-sections ss) bounds h p → T (is-free (of-sections ss) e) → far (of-sections ss) e p ≢ gate-at (of-sections ss) bounds h p → Onward h p e
+    pub stop : reach-at ss bounds h p < left-at ss bounds h p → free-from (of-sections ss) e p ≤ reach-at ss bounds h p
+    pub on : len (of-sections ss) e < left-at ss bounds h p → T (is-free (of-sections ss) e) → far (of-sections ss) e p ≢ gate-at ss bounds h p → Onward h p e
 
 -- the table is right for tries over sections that pass the test
 pub record Right (y : Plan) (may : ℕ → Bool) (bounds : List ℕ) : Type 0 where
@@ -65,8 +65,8 @@ pub record RightAt (ss ts bounds : List ℕ) (c s h p e : ℕ) : Type 0 where
 
 -- the first try, for the length n, may begin at the arrival over c at p
 pub record Begins (y : Plan) (bounds : List ℕ) (n c p : ℕ) : Type 0 where
-  pub gate : gate-at y bounds c p ≡ top
-  pub left : n ≤ left-at y bounds c p
+  pub gate : gate-at (y .sections) bounds c p ≡ top
+  pub left : n ≤ left-at (y .sections) bounds c p
 
 -- the table says nothing
 pub record Unknown (bounds : List ℕ) : Type 0 where
@@ -75,5 +75,5 @@ pub record Unknown (bounds : List ℕ) : Type 0 where
 -- a try with these marks and the length r left, which has come to the arrival over h at p, keeps to what the table says of it
 pub record Held (y : Plan) (bounds : List ℕ) (marks : ℕ → Bool) (r h p : ℕ) : Type 0 where
   pub point : T (marks p)
-  pub gate : T (eqb (gate-at y bounds h p) top || marks (gate-at y bounds h p))
-  pub left : r ≤ left-at y bounds h p
+  pub gate : T (eqb (gate-at (y .sections) bounds h p) top || marks (gate-at (y .sections) bounds h p))
+  pub left : r ≤ left-at (y .sections) bounds h p

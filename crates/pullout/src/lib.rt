@@ -2,6 +2,7 @@
 mod asked;
 pub mod bounds;
 mod copy;
+pub mod cut;
 mod gates;
 pub mod look;
 pub mod marks;

@@ -83,3 +83,12 @@ pub(crate) fn arrival_after(sections: &[u32], bounds: &[u32; 6144], a: u32, e: u
     }
     arrival_at(sections, e, q)
 }
+
+// No try has come anywhere yet.
+pub(crate) fn no_tries(bounds: &mut [u32; 6144]) {
+    let mut i: u32 = 0;
+    while i < 2048 {
+        poke(bounds, LEFTS + wide(i), 0);
+        i += 1;
+    }
+}
