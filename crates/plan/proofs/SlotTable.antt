@@ -7,11 +7,11 @@ use Prim.Native.Nat.{ℕ, _+_, _*_, _≤_, _<_}
 use native.Mathlib.Omega.{arith}
 use native.Mathlib.Decide.{ℕ-discrete, decLt}
 use lib.Dec.{T}
-use lib.ListN.{length, getD, set, length-set, replicate, length-replicate}
+use lib.ListN.{length, getD, set, length-set, replicate, length-replicate, getD-replicate}
 use lib.Seq.{getD-set-same, getD-set-other}
 use Rattle.rules.specs.Plan.{of-sections, section-count, end-A, end-B, touches}
-use Rattle.plan.specs.Ends.{Joined, AtMostThree, Slots, degree-before, counted}
-use Rattle.plan.proofs.Counting.{count-passes, count-reaches}
+use Rattle.plan.specs.Ends.{Joined, AtMostThree, Slots, no-section, degree-before, counted}
+use Rattle.plan.proofs.Counting.{count-mono, count-passes, count-reaches}
 use Rattle.plan.proofs.Touching.{touch-A, touch-B, touch-cases, touch-below}
 use Rattle.plan.proofs.Counts.{Counts, counts-none, counts-more, first-so-far, second-so-far}
 
@@ -19,20 +19,29 @@ use Rattle.plan.proofs.Counts.{Counts, counts-none, counts-more, first-
 abbrev slot : List ℕ → ℕ → ℕ → ℕ
 slot ss p t = 3 * p + degree-before ss p t
 
--- the loop has come to section k on its way to n: f says how full the points are, and each section before k stands at both
--- of its ends
+-- the loop has come to section k on its way to n: f says how full the points are, each section before k stands at both of its
+-- ends, and nothing stands in the slots not yet filled
 pub record Held (ss slots f : List ℕ) (n k : ℕ) : Type 0 where
   pub three : AtMostThree ss
   pub counts : Counts ss f n k
   pub long : length slots ≡ 2304
   pub stands : (t p : ℕ) → t < k → T (touches (of-sections ss) t p) → getD slots (slot ss p t) 0 ≡ t
+  pub beyond : (p j : ℕ) → p < 768 → degree-before ss p k ≤ j → j < 3 → getD slots (3 * p + j) 0 ≡ no-section
 
-pub held-none : {ss : List ℕ} {n : ℕ} → Joined ss → AtMostThree ss → n ≡ section-count (of-sections ss) → Held ss (replicate 2304 0) (replicate 768 0) n 0
+pub held-none : {ss : List ℕ} {n : ℕ} → Joined ss → AtMostThree ss → n ≡ section-count (of-sections ss) → Held ss (replicate 2304 no-section) (replicate 768 0) n 0
 held-none j three e =
-    record { three = three; counts = counts-none j e; long = length-replicate {A = ℕ} 2304 0; stands = λ t p h u. absurd (omega arith) }
+    record {
+      three = three;
+      counts = counts-none j e;
+      long = length-replicate {A = ℕ} 2304 no-section;
+      stands = λ t p h u. absurd (omega arith);
+      beyond = λ p i h u l. getD-replicate {A = ℕ} 2304 (3 * p + i) no-section 0 (omega arith);
+    }
 
 pub held-all : {ss slots f : List ℕ} {n k : ℕ} → Held ss slots f n k → n ≤ k → Slots ss slots
-held-all h g = record { stands = λ s p u t. h .stands s p (omega (arith, h .counts .end)) t }
+held-all {ss} {n} {k} h g =
+    let z : k ≡ section-count (of-sections ss) = omega (arith, h .counts .end, h .counts .within) in
+    record { stands = λ s p u t. h .stands s p (omega (arith, h .counts .end)) t; beyond = rw z at (h .beyond) }
 
 module _ {ss : List ℕ} (joined : Joined ss) (three : AtMostThree ss) where
   -- fewer than three sections come before a section at its end
@@ -91,6 +100,21 @@ module _ {ss slots f : List ℕ} {n k x y : ℕ} (h : Held ss slots f n k) (l : 
       ∙ getD-set-other slots (slot ss x k) (slot ss p t) k 0 (earlier-apart (h .counts .joined) (h .three) t k p x d in-table u at-x)
       ∙ h .stands t p d u
 
+  -- a slot that is beyond the sections up to k is not where section k is put
+  not-there : (z p m : ℕ) → T (touches (of-sections ss) k z) → degree-before ss p (k + 1) ≤ m → m < 3 → 3 * p + m ≢ slot ss z k
+  not-there z p m u v w e = go (ℕ-discrete p z)
+    where
+      go : Dec (p ≡ z) → ⊥
+      go (yes d) = omega (arith, count-passes (λ r. touches (of-sections ss) r z) k (k + 1) (omega arith) u, rw d at v, rw d at e)
+      go (no d) = d (omega (arith, low z u))
+
+  still-empty : (p m : ℕ) → p < 768 → degree-before ss p (k + 1) ≤ m → m < 3 → getD placed (3 * p + m) 0 ≡ no-section
+  unfolding placed
+  still-empty p m g v w =
+      getD-set-other (set slots (slot ss x k) k) (slot ss y k) (3 * p + m) k 0 (not-there y p m at-y v w)
+      ∙ getD-set-other slots (slot ss x k) (3 * p + m) k 0 (not-there x p m at-x v w)
+      ∙ h .beyond p m g (omega (arith, count-mono (λ r. touches (of-sections ss) r p) k (k + 1) (omega arith))) w
+
   pub held-more : {f₁ f₂ slots₁ slots₂ : List ℕ} → f₁ ≡ counted f x → slots₁ ≡ set slots (3 * x + getD f x 0) k → f₂ ≡ counted f₁ y
       → slots₂ ≡ set slots₁ (3 * y + getD f₁ y 0) k → Held ss slots₂ f₂ n (k + 1)
   unfolding placed
@@ -100,6 +124,7 @@ module _ {ss slots f : List ℕ} {n k x y : ℕ} (h : Held ss slots f n k) (l : 
         counts = counts-more (h .counts) l i e j g;
         long = rw (r, q, length-set, length-set) (h .long);
         stands = λ t p u v. rw as-placed (at t p v (decLt t k) u);
+        beyond = λ p m g v w. rw as-placed (still-empty p m g v w);
       }
     where
       as-placed : slots₂ ≡ placed

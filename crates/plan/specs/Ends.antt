@@ -42,12 +42,16 @@ pub record Degrees (ss d : List ℕ) : Type 0 where
 abbrev pub degree-bad-by : List ℕ → ℕ → Bool
 degree-bad-by d p = not (between 1 (getD d p 0) 3)
 
+-- no section has this number
+abbrev pub no-section : ℕ
+no-section = 4294967295
+
 -- The table has three slots a point. At each of its ends a section stands in the slot whose number is how many earlier
--- sections have that end. So the slots below a point's degree hold its sections in ascending order; what the slots beyond
--- hold is not said, and they are not read.
+-- sections have that end. So the slots below a point's degree hold its sections in ascending order; those beyond hold none.
 pub record Slots (ss slots : List ℕ) : Type 0 where
   pub stands : (s p : ℕ) → s < section-count (of-sections ss) → T (touches (of-sections ss) s p)
       → getD slots (3 * p + degree-before ss p s) 0 ≡ s
+  pub beyond : (p j : ℕ) → p < 768 → degree (of-sections ss) p ≤ j → j < 3 → getD slots (3 * p + j) 0 ≡ no-section
 
 -- all that is known where such a table has been made
 pub record Indexed (ss slots : List ℕ) : Type 0 where

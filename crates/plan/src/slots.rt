@@ -1,4 +1,4 @@
-// Which sections each point has: three slots a point, filled in ascending order.
+// Which sections each point has: three slots a point, filled in ascending order. 4294967295 stands in a slot with no section.
 ghost use mathlib.Core.Path.{_≡_};
 ghost use Prim.Native.Nat.{_+_, _*_, _<_};
 ghost use lib.ListN.{getD, set};
@@ -27,7 +27,7 @@ pub fn index(sections: &[u32]) -> [u32; 2304]
     ensures { λ r. ⌜ Slots (now (sections .entry)) r ⌝ }
 {
     let count = section_count(sections);
-    let mut slots = [0; 2304];
+    let mut slots = [4294967295; 2304];
     let mut filled = [0; 768];
     let mut s = 0;
     while s < count {
@@ -40,7 +40,7 @@ pub fn index(sections: &[u32]) -> [u32; 2304]
     slots
 }
 
-// What stands in slot j of point p. Only a slot below the point's degree holds a section.
+// What stands in slot j of point p.
 pub fn slot_at(slots: &[u32; 2304], p: u32, j: u32) -> u32
     requires { ⌜ (p < 768) × (j < 3) ⌝ }
     ensures { λ r. ⌜ r ≡ getD (now (slots .entry)) (3 * p + j) 0 ⌝ }

@@ -14,6 +14,8 @@ pub mod PullAnswers
 pub mod SheetAnswers
 pub mod Ways
 pub mod PullWays
+pub mod TurnPoints
+pub mod PullSwap
 pub mod Smallest
 pub mod PullSearch
 pub mod StepTests

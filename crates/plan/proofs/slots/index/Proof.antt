@@ -1,5 +1,5 @@
--- `slots::index` meets its contract. The loop's invariant: each section before s stands at both of its ends, and `filled` counts the
--- sections before s. The measure is what is left of the sections.
+-- `slots::index` meets its contract. The loop's invariant: each section before s stands at both of its ends, the other slots are
+-- empty, and `filled` counts the sections before s. The measure is what is left of the sections.
 -- Assumes nothing.
 use Prim.Native.Nat.{_-_}
 use native.Mathlib.Omega.{arith}

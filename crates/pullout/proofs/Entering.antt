@@ -1,0 +1,157 @@
+-- What the tests of a look come to: whether a section may be entered, and what it then is to a try.
+-- Assumes nothing.
+use mathlib.Core.Path.{_≡_, refl, sym, _∙_}
+use mathlib.Core.Logic.{_≢_}
+use mathlib.Core.Bool.{Bool, true, false, not, _&&_}
+use mathlib.Core.List.{List, _∷_}
+use Prim.Native.Nat.{ℕ, _-_, _≤_, _<_}
+use native.Mathlib.Omega.{arith}
+use borrow.Author.Tests.{not-true, not-false}
+use lib.Dec.{T, eqb, ltb, ltb→lt, lt→ltb}
+use Rattle.rules.specs.Plan.{plan-of, section-count, len, is-free, touches, far, free-from, forbidden}
+use Rattle.rules.specs.PullOut.{any-section}
+use Rattle.rules.proofs.Tests.{tests, clash, fails, and-T, T-and, gives-true, gives-false, gives-same, says-true, says-false}
+use Rattle.rules.proofs.Ways.{may-use, way-fits, way-onward, free-whole}
+use Rattle.rules.proofs.PullSearch.{fits, fits-T, T-fits}
+use Rattle.plan.specs.Ends.{Joined, AtMostThree}
+use Rattle.plan.proofs.Known.{plan-joined, plan-three}
+use Rattle.plan.proofs.Touching.{touch-below}
+use Rattle.pullout.specs.declared.marks.Try.{Try}
+use Rattle.pullout.specs.declared.look.Look.the-variants.{Shut, Last, On}
+use Rattle.pullout.specs.Marks.{marked}
+use Rattle.pullout.specs.Tables.{Passes, TurnTable, forbidden-by, Arrived}
+use Rattle.pullout.specs.Reach.{reach-at}
+use Rattle.pullout.specs.Looked.{Enters, Goes, GoesOn, Looked, Bounded}
+use Rattle.pullout.proofs.TurnsByPoint.{by-table}
+use Rattle.pullout.proofs.Reach.{at-far, cut}
+
+-- what the passed checks say of the sections
+pub passed-joined : {ss ts : List ℕ} → Passes ss ts → Joined ss
+passed-joined {ss} {ts} ok = plan-joined (plan-of (ok .points) ss ts) (ok .passes)
+
+pub passed-three : {ss ts : List ℕ} → Passes ss ts → AtMostThree ss
+passed-three {ss} {ts} ok = plan-three (plan-of (ok .points) ss ts) (ok .passes)
+
+pub arrived-low : {ss ts : List ℕ} {h p : ℕ} → Passes ss ts → Arrived ss h p → p < 768
+arrived-low {h} {p} ok a = touch-below (passed-joined ok .each h (a .inside)) p (a .touch)
+
+pub far-low : {ss ts : List ℕ} → Passes ss ts → (e p : ℕ) → e < section-count (plan-of 0 ss ts) → far (plan-of 0 ss ts) e p < 768
+far-low {ss} {ts} ok e p l = touch-below (passed-joined ok .each e l) (far (plan-of 0 ss ts) e p) (at-far (plan-of 0 ss ts) e p)
+
+pub section-low : {ss ts : List ℕ} {e : ℕ} → Passes ss ts → e < section-count (plan-of 0 ss ts) → e < 1024
+section-low ok l = omega (arith, passed-joined ok .few)
+
+-- the test that a section is one of the plan's and may be entered
+abbrev pub entry : List ℕ → List ℕ → ℕ → ℕ → ℕ → ℕ → ℕ → Bool
+entry ss ts c s h p e = ltb e (section-count (plan-of 0 ss ts)) && fits (plan-of 0 ss ts) (may-use any-section c s) h p e
+
+module _ (ss ts : List ℕ) (c s h p e : ℕ) where
+  pub entry-T : T (entry ss ts c s h p e) → Enters ss ts c s h p e
+  entry-T t =
+      let u = and-T (ltb e (section-count (plan-of 0 ss ts))) (fits (plan-of 0 ss ts) (may-use any-section c s) h p e) t in
+      fits-T (plan-of 0 ss ts) (may-use any-section c s) h p e (ltb→lt e (section-count (plan-of 0 ss ts)) (u .0)) (u .1)
+
+  pub T-entry : Enters ss ts c s h p e → T (entry ss ts c s h p e)
+  T-entry f =
+      T-and (ltb e (section-count (plan-of 0 ss ts))) (fits (plan-of 0 ss ts) (may-use any-section c s) h p e)
+      (lt→ltb e (section-count (plan-of 0 ss ts)) (f .inside)) (T-fits (plan-of 0 ss ts) (may-use any-section c s) f)
+
+  -- a test that fails
+  no-entry : (Enters ss ts c s h p e → ⊥) → false ≡ entry ss ts c s h p e
+  no-entry n = gives-false (λ t. n (entry-T t))
+
+  pub outside : {r : Bool} → r ≡ ltb e (section-count (plan-of 0 ss ts)) → not r ≡ true → false ≡ entry ss ts c s h p e
+  outside {r} i n =
+      no-entry (λ f. clash (ltb e (section-count (plan-of 0 ss ts))) (lt→ltb e (section-count (plan-of 0 ss ts)) (f .inside))
+      (says-false (ltb e (section-count (plan-of 0 ss ts))) (not-true r n) i))
+
+  pub elsewhere : {r : Bool} → r ≡ touches (plan-of 0 ss ts) e p → not r ≡ true → false ≡ entry ss ts c s h p e
+  elsewhere {r} i n =
+      no-entry (λ f. clash (touches (plan-of 0 ss ts) e p) (f .touch) (says-false (touches (plan-of 0 ss ts) e p) (not-true r n) i))
+
+  pub back-again : e ≡ h → false ≡ entry ss ts c s h p e
+  back-again i = no-entry (λ f. f .other i)
+
+  -- what the usable sections are not
+  not-both : Enters ss ts c s h p e → (e ≢ c) × (e ≢ s)
+  not-both f = let u = simp tests at (f .usable) in (u .0 .1, u .1)
+
+  pub is-first : e ≡ c → false ≡ entry ss ts c s h p e
+  is-first i = no-entry (λ f. not-both f .0 i)
+
+  module _ {table : List ℕ} (ok : Passes ss ts) (made : TurnTable ss ts table) (a : Arrived ss h p) where
+    -- the table says of a section at p whether the turn into it is forbidden
+    by-turn : e < section-count (plan-of 0 ss ts) → T (touches (plan-of 0 ss ts) e p) → e ≢ h → forbidden-by table p h e ≡ forbidden (plan-of 0 ss ts) h e
+    by-turn l t n = by-table ok made (arrived-low ok a) a (record { inside = l; touch = t }) (λ i. n (sym i))
+
+    pub turn-shut : {r : Bool} → r ≡ forbidden-by table p h e → r ≡ true → false ≡ entry ss ts c s h p e
+    turn-shut i q =
+        no-entry (λ f. clash (forbidden (plan-of 0 ss ts) h e)
+        (says-true (forbidden (plan-of 0 ss ts) h e) q (i ∙ by-turn (f .inside) (f .touch) (f .other))) (f .turn))
+
+    -- all tests but the last have passed
+    pub entry-last : {i t f : Bool} → i ≡ ltb e (section-count (plan-of 0 ss ts)) → not i ≡ false → t ≡ touches (plan-of 0 ss ts) e p → not t ≡ false → e ≢ h
+        → f ≡ forbidden-by table p h e → f ≡ false → e ≢ c → not (eqb e s) ≡ entry ss ts c s h p e
+    entry-last {i} {t} {f} ei ni et nt nh ef nf nc = gives-same to from
+      where
+        l : e < section-count (plan-of 0 ss ts)
+        l = ltb→lt e (section-count (plan-of 0 ss ts)) (says-true (ltb e (section-count (plan-of 0 ss ts))) (not-false i ni) ei)
+
+        u : T (touches (plan-of 0 ss ts) e p)
+        u = says-true (touches (plan-of 0 ss ts) e p) (not-false t nt) et
+
+        to : T (not (eqb e s)) → T (entry ss ts c s h p e)
+        to ns =
+            T-entry (record {
+              inside = l;
+              touch = u;
+              turn = says-false (forbidden (plan-of 0 ss ts) h e) nf (ef ∙ by-turn l u nh);
+              other = nh;
+              usable = simp tests ((tt, nc), simp tests at ns);
+            })
+
+        from : T (entry ss ts c s h p e) → T (not (eqb e s))
+        from t = simp tests (not-both (entry-T t) .1)
+
+-- a look at section e
+module _ (ss ts : List ℕ) (c s : ℕ) (t : Try) (h p e : ℕ) where
+  pub looked-out : {r : Bool} → r ≡ entry ss ts c s h p e → not r ≡ true → Looked ss ts c s t h p e Shut
+  looked-out {r} i n qs w = clash (entry ss ts c s h p e) (T-entry ss ts c s h p e (way-fits w)) (says-false (entry ss ts c s h p e) (not-true r n) i)
+
+  pub looked-in : {r : Bool} → r ≡ entry ss ts c s h p e → not r ≡ false → Enters ss ts c s h p e
+  looked-in {r} i n = entry-T ss ts c s h p e (says-true (entry ss ts c s h p e) (not-false r n) i)
+
+  -- it is too short to be the last
+  module _ {x : ℕ} (i : x ≡ free-from (plan-of 0 ss ts) e p) (l : x < t .left) where
+    less : free-from (plan-of 0 ss ts) e p < t .left
+    less = omega arith
+
+    pub occupied : {r : Bool} → r ≡ is-free (plan-of 0 ss ts) e → not r ≡ true → Looked ss ts c s t h p e Shut
+    occupied {r} j n qs w =
+        clash (is-free (plan-of 0 ss ts) e) (way-onward less w .0) (says-false (is-free (plan-of 0 ss ts) e) (not-true r n) j)
+
+    pub passed-before : {q : ℕ} {r : Bool} → q ≡ far (plan-of 0 ss ts) e p → r ≡ marked t q → r ≡ true → Looked ss ts c s t h p e Shut
+    passed-before {q} k j n qs w =
+        clash (marked t (far (plan-of 0 ss ts) e p)) (says-true (marked t (far (plan-of 0 ss ts) e p)) n (rw k at j)) (way-onward less w .1)
+
+    pub goes-on : {q n : ℕ} {f m : Bool} → Enters ss ts c s h p e → f ≡ is-free (plan-of 0 ss ts) e → not f ≡ false → q ≡ far (plan-of 0 ss ts) e p
+        → m ≡ marked t q → m ≡ false → n ≡ len (plan-of 0 ss ts) e → Looked ss ts c s t h p e (On q n)
+    goes-on {q} {f} en ef nf k j z o =
+        record {
+          enters = en;
+          short = less;
+          free = says-true (is-free (plan-of 0 ss ts) e) (not-false f nf) ef;
+          far = k;
+          new = says-false (marked t q) z j;
+          long = o;
+        }
+
+  -- beyond a section to go on over
+  module _ {q n : ℕ} (g : GoesOn ss ts c s t h p e q n) where
+    pub on-fits : n ≤ t .left
+    on-fits = omega (arith, g .short, g .long, free-whole (plan-of 0 ss ts) e p (g .free))
+
+    pub cut-off : {bounds : List ℕ} {x : ℕ} → Passes ss ts → Arrived ss h p → Bounded ss ts bounds c s t h p → x ≡ reach-at ss bounds e q
+        → x < t .left - n → Looked ss ts c s t h p e Shut
+    cut-off ok a b i l qs w =
+        cut (passed-joined ok) (b .right) (a .inside) (a .touch) (b .held) (g .short) (rw (← (g .far), ← (g .long), ← i) l) w

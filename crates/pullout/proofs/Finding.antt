@@ -1,0 +1,66 @@
+-- The tries that begin at p are those of the pull-outs for (c, p, s).
+-- Assumes nothing.
+use mathlib.Core.Path.{_≡_, refl, sym, ap, _∙_}
+use mathlib.Core.Bool.{Bool}
+use mathlib.Core.List.{List, _++_}
+use Prim.Native.Nat.{ℕ, _+_, _≤_, _<_}
+use native.Mathlib.Omega.{arith}
+use lib.Dec.{T}
+use lib.ListN.{length, drop}
+use lib.Seq.{sets, sets-eq}
+use Rattle.rules.specs.Plan.{plan-of}
+use Rattle.rules.specs.PullOut.{any-section}
+use Rattle.rules.proofs.Ways.{may-use, only, Fits, Way, last, next, fewer-marks}
+use Rattle.rules.proofs.PullWays.{first-pull, no-pull}
+use Rattle.pullout.specs.declared.marks.Try.{Try}
+use Rattle.pullout.specs.Marks.{marked, Begun}
+use Rattle.pullout.specs.Reach.{top, Unknown, Held}
+use Rattle.pullout.specs.Tables.{Passes, Arrived}
+use Rattle.pullout.specs.Looked.{Goes, Bounded}
+use Rattle.pullout.specs.Tried.{Tried, none, smallest}
+use Rattle.pullout.specs.Searched.{Searched, none-there, first-there, Suits}
+use Rattle.pullout.proofs.Reach.{held-first, held-marks}
+use Rattle.pullout.proofs.Unknown.{unknown-right, unknown-begins}
+use Rattle.pullout.proofs.Entering.{passed-joined}
+
+-- a way does not ask how many points the plan has
+module _ {ss ts : List ℕ} {may : ℕ → Bool} (v w : ℕ) where
+  fits-points : {c p q : ℕ} → Fits (plan-of v ss ts) may c p q → Fits (plan-of w ss ts) may c p q
+  fits-points f = record { inside = f .inside; touch = f .touch; turn = f .turn; other = f .other; usable = f .usable }
+
+  way-points : {r c p : ℕ} {marks : ℕ → Bool} {qs : List ℕ} → Way (plan-of v ss ts) may r c p marks qs → Way (plan-of w ss ts) may r c p marks qs
+  way-points (last f e) = last (fits-points f) e
+  way-points (next f e l n k) = next (fits-points f) e l n (way-points k)
+
+-- t is the first try for the length n
+module _ {ss ts : List ℕ} (c s : ℕ) {p n : ℕ} {t : Try} (begun : Begun p n t) where
+  goes-way : (v : ℕ) (qs : List ℕ) → Goes ss ts c s t c p qs → Way (plan-of v ss ts) (may-use any-section c s) n c p (only p) qs
+  goes-way v qs k =
+      let u : Way (plan-of 0 ss ts) (may-use any-section c s) (t .left) c p (only p) qs = fewer-marks (λ k o. rw (begun .marks k) o) k in
+      way-points 0 v (rw (begun .left) at u)
+
+  way-goes : (v : ℕ) (qs : List ℕ) → Way (plan-of v ss ts) (may-use any-section c s) n c p (only p) qs → Goes ss ts c s t c p qs
+  way-goes v qs k =
+      let u : Way (plan-of 0 ss ts) (may-use any-section c s) (t .left) c p (only p) qs = rw (begun .left) (way-points v 0 k) in
+      fewer-marks (λ k o. rw (begun .marks k) at o) u
+
+  pub begun-bounded : {bounds : List ℕ} → Suits ss ts bounds n c p s → Bounded ss ts bounds c s t c p
+  begun-bounded {bounds} b =
+      let u : Held (plan-of 0 ss ts) bounds (only p) (t .left) c p = rw (begun .left) (held-first (b .begins)) in
+      record { right = b .right; held = held-marks (λ k o. rw (begun .marks k) o) u }
+
+  pub searched : {b a : List ℕ} {m : ℕ} → 0 < n → Tried (Goes ss ts c s t c p) b 0 m a → (v : ℕ) → Searched (plan-of v ss ts) n c p s b m a
+  searched z (none i w miss) v = none-there i w (no-pull (λ rs k. miss rs (way-goes v rs k)))
+  searched {b} z (smallest qs i pos fit w k least) v =
+      first-there qs (omega arith) (omega arith) fit (w ∙ sets-eq qs b 0 (omega arith) ∙ front) (first-pull z (goes-way v qs k) (λ rs o. least rs (way-goes v rs o)))
+    where
+      front : qs ++ drop (0 + length qs) b ≡ qs ++ drop (length qs) b
+      front = let e : 0 + length qs ≡ length qs = omega arith in rw e refl
+
+-- the table that says nothing suits every pull-out
+pub unknown-suits : {ss ts bounds : List ℕ} {n c p s : ℕ} → Passes ss ts → Arrived ss c p → n ≤ top → Unknown bounds → Suits ss ts bounds n c p s
+unknown-suits {ss} {ts} {n} {c} {p} {s} ok a l u =
+    record {
+      right = unknown-right (plan-of 0 ss ts) (passed-joined ok .few) u (may-use any-section c s);
+      begins = unknown-begins (plan-of 0 ss ts) (passed-joined ok .few) u n c p l (a .inside);
+    }

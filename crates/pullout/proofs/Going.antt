@@ -1,0 +1,99 @@
+-- A try that goes on over a section: what it then looks for, and what is known of it.
+-- Assumes nothing.
+use mathlib.Core.Path.{_≡_, refl, sym, _∙_}
+use mathlib.Core.Logic.{_≢_, _⊎_, ⊎-elim, inl, inr}
+use mathlib.Core.Bool.{Bool, not}
+use mathlib.Core.List.{List, _∷_}
+use Prim.Native.Nat.{ℕ, _+_, _-_, _*_, _≤_, _<_}
+use native.Mathlib.Omega.{arith}
+use lib.Dec.{T}
+use lib.ListN.{getD}
+use Rattle.rules.specs.Plan.{plan-of, len, far}
+use Rattle.rules.specs.PullOut.{any-section}
+use Rattle.rules.proofs.Ways.{may-use, mark, Way, last, next, free-whole, way-onward, fewer-marks}
+use Rattle.pullout.specs.declared.marks.Try.{Try}
+use Rattle.pullout.specs.Marks.{marked, Past}
+use Rattle.pullout.specs.Tables.{Passes, Tables, Arrived}
+use Rattle.pullout.specs.Reach.{Held}
+use Rattle.pullout.specs.Looked.{Enters, Goes, GoesOn, Bounded}
+use Rattle.pullout.specs.Tried.{Heads, Over, Tried}
+use Rattle.pullout.proofs.Reach.{at-far, held-marks, held-on}
+use Rattle.pullout.proofs.Entering.{passed-joined, passed-three, arrived-low, far-low}
+use Rattle.pullout.proofs.ThreeSlots.{in-slot, ascending}
+use Rattle.pullout.proofs.Trying.{found-first, found-second, tried-third}
+
+module _ {ss ts : List ℕ} {c s : ℕ} {t : Try} {h p e q n : ℕ} (g : GoesOn ss ts c s t h p e q n) where
+  pub on-low : Passes ss ts → q < 768
+  on-low ok = rw (g .far) (far-low ok e p (g .enters .inside))
+
+  pub on-arrived : Arrived ss e q
+  on-arrived = record { inside = g .enters .inside; touch = rw (g .far) (at-far (plan-of 0 ss ts) e p) }
+
+  shorter : len (plan-of 0 ss ts) e < t .left
+  shorter = omega (arith, g .short, free-whole (plan-of 0 ss ts) e p (g .free))
+
+  -- r is the try that goes on
+  module _ {r : Try} (w : Past t q n r) where
+    -- its marks are those of t and one more
+    more : (k : ℕ) → T (mark q (marked t) k) → T (marked r k)
+    more k = λ u. rw (w .marks k) u
+
+    no-more : (k : ℕ) → T (marked r k) → T (mark q (marked t) k)
+    no-more k = λ u. rw (w .marks k) at u
+
+    -- it looks for what t looks for beyond section e
+    pub from-there : (qs : List ℕ) → Goes ss ts c s r e q qs → Goes ss ts c s t h p (e ∷ qs)
+    from-there qs v =
+        let u : Way (plan-of 0 ss ts) (may-use any-section c s) (r .left) e q (mark q (marked t)) qs = fewer-marks more v in
+        next (g .enters) (g .free) shorter (rw (g .far) at (g .new)) (rw (w .left, g .long, g .far) at u)
+
+    pub to-there : (qs : List ℕ) → Goes ss ts c s t h p (e ∷ qs) → Goes ss ts c s r e q qs
+    to-there qs v =
+        let u : Way (plan-of 0 ss ts) (may-use any-section c s) (r .left) e q (mark q (marked t)) qs =
+        rw (w .left, g .long, g .far) (way-onward (g .short) v .2) in
+        fewer-marks no-more u
+
+    pub on-bounded : {bounds : List ℕ} → Passes ss ts → Arrived ss h p → Bounded ss ts bounds c s t h p → Bounded ss ts bounds c s r e q
+    on-bounded {bounds} ok a b =
+        let u : Held (plan-of 0 ss ts) bounds (mark q (marked t)) (r .left) e q =
+        rw (w .left, g .long, g .far)
+        (held-on (passed-joined ok) (b .right) (a .inside) (a .touch) (b .held) (g .enters) (g .free) shorter (rw (g .far) at (g .new))) in
+        record { right = b .right; held = held-marks more u }
+
+-- what a try at p looks for begins with one of the sections in p's slots
+module _ {ss ts slots table : List ℕ} (tables : Tables ss ts slots table) {h p : ℕ} (a : Arrived ss h p) where
+  pub slots-ascend : (j k : ℕ) {x y : ℕ} → j < k → k < 3 → x ≡ getD slots (3 * p + j) 0 → y ≡ getD slots (3 * p + k) 0 → x ≤ y
+  slots-ascend j k l m e f =
+      let ok = tables .checked in
+      omega (arith, ascending (passed-joined ok) (passed-three ok) (tables .slotted) p j k (arrived-low ok a) l m)
+
+  pub all-slots : (c s : ℕ) (t : Try) {x y z : ℕ} → x ≡ getD slots (3 * p + 0) 0 → y ≡ getD slots (3 * p + 1) 0 → z ≡ getD slots (3 * p + 2) 0
+      → (qs : List ℕ) → Goes ss ts c s t h p qs → Heads x qs ⊎ (Heads y qs ⊎ Heads z qs)
+  all-slots c s t {x} {y} {z} i j k qs w = go qs w
+    where
+      at : (q : ℕ) → Enters ss ts c s h p q → (q ≡ x) ⊎ ((q ≡ y) ⊎ (q ≡ z))
+      at q f =
+          let ok = tables .checked in
+          ⊎-elim (λ e. inl (e ∙ sym i)) (⊎-elim (λ e. inr (inl (e ∙ sym j))) (λ e. inr (inr (e ∙ sym k))))
+          (in-slot (passed-joined ok) (passed-three ok) (tables .slotted) q p (f .inside) (f .touch))
+
+      go : (qs : List ℕ) → Goes ss ts c s t h p qs → Heads x qs ⊎ (Heads y qs ⊎ Heads z qs)
+      go qs (last {q} f e) = at q f
+      go qs (next {q} f e l n v) = at q f
+
+  -- so the tries of its three sections, in their order, make the try of the point
+  module _ (c s : ℕ) (t : Try) {b : List ℕ} {d x : ℕ} (i : x ≡ getD slots (3 * p + 0) 0) where
+    pub point-first : {n : ℕ} {o : List ℕ} → Tried (Over (Goes ss ts c s t h p) x) b d n o → n ≢ 0 → Tried (Goes ss ts c s t h p) b d n o
+    point-first =
+        found-first (all-slots c s t i refl refl) (slots-ascend 0 1 (omega arith) (omega arith) i refl) (slots-ascend 1 2 (omega arith) (omega arith) refl refl)
+
+    pub point-second : {y n m : ℕ} {o u : List ℕ} → y ≡ getD slots (3 * p + 1) 0 → Tried (Over (Goes ss ts c s t h p) x) b d n o → n ≡ 0
+        → Tried (Over (Goes ss ts c s t h p) y) o d m u → m ≢ 0 → Tried (Goes ss ts c s t h p) b d m u
+    point-second j =
+        found-second (all-slots c s t i j refl) (slots-ascend 0 1 (omega arith) (omega arith) i j) (slots-ascend 1 2 (omega arith) (omega arith) j refl)
+
+    pub point-third : {y z n m l : ℕ} {o u v : List ℕ} → y ≡ getD slots (3 * p + 1) 0 → z ≡ getD slots (3 * p + 2) 0
+        → Tried (Over (Goes ss ts c s t h p) x) b d n o → n ≡ 0 → Tried (Over (Goes ss ts c s t h p) y) o d m u → m ≡ 0
+        → Tried (Over (Goes ss ts c s t h p) z) u d l v → Tried (Goes ss ts c s t h p) b d l v
+    point-third j k q w r o f =
+        tried-third (all-slots c s t i j k) (slots-ascend 0 1 (omega arith) (omega arith) i j) (slots-ascend 1 2 (omega arith) (omega arith) j k) q w r o f

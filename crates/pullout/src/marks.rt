@@ -1,0 +1,44 @@
+// One try for a pull-out: the marks of the points passed, and the length that is left. No other function sees how the marks
+// are kept.
+ghost use mathlib.Core.Path.{_≡_};
+ghost use mathlib.Core.Bool.{not};
+ghost use Prim.Native.Nat.{_≤_, _<_};
+ghost use lib.Dec.{T};
+ghost use Rattle.pullout.specs.Marks.{marked, Covers, Begun, Past};
+use plan::read::wide;
+
+pub struct Try {
+    marks: [u8; 768],
+    pub left: u32,
+}
+
+// The try has passed point q.
+pub fn is_marked(t: Try, q: u32) -> bool
+    requires { ⌜ q < 768 ⌝ }
+    ensures { λ r. ⌜ r ≡ marked t q ⌝ }
+{
+    let at = wide(q);
+    t.marks[at] != 0
+}
+
+// The first try, from point p, for the length n.
+pub fn first_try(p: u32, n: u32) -> Try
+    requires { ⌜ p < 768 ⌝ }
+    ensures { λ r. ⌜ Begun p n r ⌝ }
+{
+    let mut marks = [0u8; 768];
+    let at = wide(p);
+    marks[at] = 1;
+    Try { marks, left: n }
+}
+
+// The try that goes on past point q, over a section of length n.
+pub fn go_past(mut t: Try, q: u32, n: u32) -> Try
+    requires { ⌜ Covers t × (q < 768) × T (not (marked t q)) × (n ≤ t .left) ⌝ }
+    ensures { λ r. ⌜ Past t q n r ⌝ }
+{
+    let at = wide(q);
+    t.marks[at] = 1;
+    t.left = t.left - n;
+    t
+}
