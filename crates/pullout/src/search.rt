@@ -9,7 +9,7 @@ ghost use Rattle.pullout.specs.Tables.{Passes, TurnTable, Tables, Arrive
 ghost use Rattle.pullout.specs.Looked.{Goes, Bounded};
 ghost use Rattle.pullout.specs.Tried.{Over, Tried};
 ghost use Rattle.pullout.specs.Searched.{Searched, Suits};
-use crate::bounds::no_bounds;
+use crate::cut::cut_for;
 use crate::look::Look;
 use crate::look::look_ahead;
 use crate::marks::Try;
@@ -126,6 +126,6 @@ pub fn find_pull_out(
     ensures { λ r. ⌜ ((v : ℕ) → Searched (plan-of v (now (sections .entry)) (now (turns .entry))) need c p s (now (out .entry)) r (now (out .exit))) ⌝ }
 {
     let slots = index(sections);
-    let cut = no_bounds();
+    let cut = cut_for(sections, turns, &slots, table, c, p, s, need);
     first_pull_out(sections, turns, &slots, table, &cut, out, need, c, p, s)
 }

@@ -1,9 +1,6 @@
 -- `search::find_pull_out` meets its contract: the tables are made as the search asks for them.
 -- Assumes nothing.
-use native.Mathlib.Omega.{arith}
-use Rattle.rules.specs.Plan.{plan-of}
 use Rattle.pullout.proofs.Entering.{passed-joined, passed-three}
-use Rattle.pullout.proofs.Finding.{unknown-suits}
 use borrow.Author.Needs.{needs}
 use Rattle.pullout.proofs.search.find_pull_out.Statement.{statement}
 use Rattle.pullout.proofs.search.find_pull_out.Tie as tie
@@ -13,19 +10,11 @@ index-requires c κs =
     let known = c .before .before .before .pre in
     (passed-joined (known .0), passed-three (known .0))
 
-no-bounds-requires : tie.Need-no-bounds-requires
-no-bounds-requires c κs = search needs
+cut-for-requires : tie.Need-cut-for-requires
+cut-for-requires c κs = search needs
 
 first-pull-out-requires : tie.Need-first-pull-out-requires
-first-pull-out-requires c κs =
-    let start = c .before .before .before .before .before .before .before .before in
-    let known = start .pre in (
-      record { checked = known .0; slotted = c .before .before .before .before .index .ensures; turned = known .1 },
-      known .2,
-      unknown-suits (known .0) (known .2) (omega arith) (c .before .before .before .no-bounds .ensures),
-      known .3,
-      known .4,
-    )
+first-pull-out-requires c κs = search needs
 
 same-length : tie.Need-same-length
 same-length c = search needs
@@ -36,4 +25,4 @@ returns c = search needs
 pub find-pull-out-spec : {M : Type 1} → statement M
 find-pull-out-spec =
     tie.close
-    (tie.spec index-requires no-bounds-requires first-pull-out-requires same-length returns)
+    (tie.spec index-requires cut-for-requires first-pull-out-requires same-length returns)
