@@ -90,13 +90,5 @@ pub extern "C" fn finder_pull_out(
     ensures { λ r.
         ⌜ PullAnswer (reversal-of (plan-of points (now (sections .entry)) (now (turns .entry))) length arrival section) (now (list .entry)) (pulledOf r (now (list .exit))) ⌝ }
 {
-    pulled(pullout::pull_out(
-        points,
-        sections,
-        turns,
-        length,
-        arrival,
-        section,
-        list,
-    ))
+    pulled(pullout::pull_out(points, sections, turns, length, arrival, section, list))
 }

@@ -1,0 +1,2 @@
+-- Laws of the structs of the C ABI.
+pub mod Structs

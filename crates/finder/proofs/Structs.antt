@@ -1,0 +1,19 @@
+-- The numbers in a struct of the C ABI are those of the answer that it stands for.
+-- Assumes nothing.
+use mathlib.Core.Path.{_≡_, refl}
+use mathlib.Core.List.{List}
+use Prim.Native.Nat.{ℕ}
+use Rattle.rules.specs.PullAnswer.{Reversal, PullAnswer}
+use Rattle.pullout.specs.declared.Pulled.{Pulled}
+use Rattle.pullout.specs.declared.Pulled.the-variants.{Found, Refused}
+use Rattle.pullout.specs.Answer.{numbers-of}
+use Rattle.finder.specs.declared.Pull.{Pull}
+use Rattle.finder.specs.Numbers.{pull-answer, pulledOf}
+
+same-numbers : (a : Pulled) (list : List ℕ) → pulledOf (pull-answer a) list ≡ numbers-of a list
+same-numbers (Found n) list = refl
+same-numbers (Refused n p) list = refl
+
+pub pull-carried : (v : Reversal) (entry exit : List ℕ) (a : Pulled) {r : Pull} → r ≡ pull-answer a → PullAnswer v entry (numbers-of a exit)
+    → PullAnswer v entry (pulledOf r exit)
+pull-carried v entry exit a e h = rw (e, same-numbers a exit) h
