@@ -1,9 +1,8 @@
-// What is asked for: refusals 7 and 15.
+// What is asked for: refusal 15.
 ghost use mathlib.Core.Path.{_≡_};
 ghost use mathlib.Core.Bool.{_&&_};
 ghost use mathlib.Core.List.{[]};
 ghost use lib.Dec.{ltb};
-ghost use Rattle.rules.specs.Ranges.{between};
 ghost use Rattle.rules.specs.Plan.{plan-of, of-sections, section-count, arrivals, to-point, touches};
 ghost use Rattle.rules.specs.PullAnswer.{reversal-of, turn-asked};
 ghost use Rattle.pullout.specs.Tables.{Passes, TurnTable};
@@ -11,16 +10,6 @@ use crate::turn_table::is_forbidden;
 use plan::read::has_section;
 use plan::read::section_number;
 use plan::section::touches;
-
-// The train's length is in range.
-pub(crate) fn train_good(length: u32) -> bool
-    ensures { λ r. ⌜ r ≡ between 1 length 20000 ⌝ }
-{
-    if length < 1 {
-        return false;
-    }
-    length <= 20000
-}
 
 // The point to which an arrival comes.
 pub(crate) fn arrival_point(sections: &[u32], arrival: u32) -> u32

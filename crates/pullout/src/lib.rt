@@ -24,12 +24,12 @@ ghost use Rattle.rules.specs.PullAnswer.{reversal-of, turn-asked, pull-checks, 
 ghost use Rattle.pullout.specs.Tables.{Passes, TurnTable};
 ghost use Rattle.pullout.specs.Answer.{numbers-of};
 use asked::arrival_point;
-use asked::train_good;
 use asked::turn_asked;
 use copy::copy_front;
 use plan::Checked;
 use plan::check_plan;
 use search::find_pull_out;
+use train::train_good;
 use turn_table::turn_table;
 
 // What is answered: how many sections were written, or a refusal's number and place.

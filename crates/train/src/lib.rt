@@ -8,16 +8,16 @@ use crate::room::finish_room;
 use plan::Checked;
 ghost use mathlib.Core.Path.{_≡_};
 ghost use mathlib.Core.Bool.{_&&_};
-ghost use mathlib.Core.List.{[]};
 ghost use lib.Dec.{eqb};
+ghost use Rattle.rules.specs.Ranges.{between};
 ghost use Rattle.rules.specs.Plan.{of-sections};
 ghost use Rattle.rules.specs.Refusals.{verdict};
-ghost use Rattle.rules.specs.Query.{query-of, train-good, start-good, finish-good, train-checks};
+ghost use Rattle.rules.specs.Query.{query-of, start-good, finish-good, train-checks};
 ghost use Rattle.plan.specs.Answer.{checked-of};
 
 // The train's length is in range.
-fn train_good(length: u32) -> bool
-    ensures { λ r. ⌜ r ≡ train-good (query-of (of-sections []) length 0 0 0 0) ⌝ }
+pub fn train_good(length: u32) -> bool
+    ensures { λ r. ⌜ r ≡ between 1 length 20000 ⌝ }
 {
     if length < 1 {
         return false;
