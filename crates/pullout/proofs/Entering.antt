@@ -13,8 +13,8 @@ use Rattle.rules.specs.PullOut.{any-section}
 use Rattle.rules.proofs.Tests.{tests, clash, fails, and-T, T-and, gives-true, gives-false, gives-same, says-true, says-false}
 use Rattle.rules.proofs.Ways.{may-use, way-fits, way-onward, free-whole}
 use Rattle.rules.proofs.PullSearch.{fits, fits-T, T-fits}
-use Rattle.plan.specs.Ends.{Joined}
-use Rattle.plan.proofs.Known.{plan-joined}
+use Rattle.plan.specs.Ends.{Joined, AtMostThree}
+use Rattle.plan.proofs.Known.{plan-joined, plan-three}
 use Rattle.plan.proofs.Touching.{touch-below}
 use Rattle.pullout.specs.declared.marks.Try.{Try}
 use Rattle.pullout.specs.declared.look.Look.the-variants.{Shut, Last, On}
@@ -28,6 +28,9 @@ use Rattle.pullout.proofs.Reach.{at-far, cut}
 -- what the passed checks say of the sections
 pub passed-joined : {ss ts : List ℕ} → Passes ss ts → Joined ss
 passed-joined {ss} {ts} ok = plan-joined (plan-of (ok .points) ss ts) (ok .passes)
+
+pub passed-three : {ss ts : List ℕ} → Passes ss ts → AtMostThree ss
+passed-three {ss} {ts} ok = plan-three (plan-of (ok .points) ss ts) (ok .passes)
 
 pub arrived-low : {ss ts : List ℕ} {h p : ℕ} → Passes ss ts → Arrived ss h p → p < 768
 arrived-low {h} {p} ok a = touch-below (passed-joined ok .each h (a .inside)) p (a .touch)

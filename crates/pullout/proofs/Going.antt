@@ -11,7 +11,6 @@ use lib.ListN.{getD}
 use Rattle.rules.specs.Plan.{plan-of, len, far}
 use Rattle.rules.specs.PullOut.{any-section}
 use Rattle.rules.proofs.Ways.{may-use, mark, Way, last, next, free-whole, way-onward, fewer-marks}
-use Rattle.plan.proofs.Known.{plan-three}
 use Rattle.pullout.specs.declared.marks.Try.{Try}
 use Rattle.pullout.specs.Marks.{marked, Past}
 use Rattle.pullout.specs.Tables.{Passes, Tables, Arrived}
@@ -19,7 +18,7 @@ use Rattle.pullout.specs.Reach.{Held}
 use Rattle.pullout.specs.Looked.{Enters, Goes, GoesOn, Bounded}
 use Rattle.pullout.specs.Tried.{Heads, Over, Tried}
 use Rattle.pullout.proofs.Reach.{at-far, held-marks, held-on}
-use Rattle.pullout.proofs.Entering.{passed-joined, arrived-low, far-low}
+use Rattle.pullout.proofs.Entering.{passed-joined, passed-three, arrived-low, far-low}
 use Rattle.pullout.proofs.ThreeSlots.{in-slot, ascending}
 use Rattle.pullout.proofs.Trying.{found-first, found-second, tried-third}
 
@@ -66,7 +65,7 @@ module _ {ss ts slots table : List ℕ} (tables : Tables ss ts slots table) {h p
   pub slots-ascend : (j k : ℕ) {x y : ℕ} → j < k → k < 3 → x ≡ getD slots (3 * p + j) 0 → y ≡ getD slots (3 * p + k) 0 → x ≤ y
   slots-ascend j k l m e f =
       let ok = tables .checked in
-      omega (arith, ascending (passed-joined ok) (plan-three (plan-of (ok .points) ss ts) (ok .passes)) (tables .slotted) p j k (arrived-low ok a) l m)
+      omega (arith, ascending (passed-joined ok) (passed-three ok) (tables .slotted) p j k (arrived-low ok a) l m)
 
   pub all-slots : (c s : ℕ) (t : Try) {x y z : ℕ} → x ≡ getD slots (3 * p + 0) 0 → y ≡ getD slots (3 * p + 1) 0 → z ≡ getD slots (3 * p + 2) 0
       → (qs : List ℕ) → Goes ss ts c s t h p qs → Heads x qs ⊎ (Heads y qs ⊎ Heads z qs)
@@ -76,7 +75,7 @@ module _ {ss ts slots table : List ℕ} (tables : Tables ss ts slots table) {h p
       at q f =
           let ok = tables .checked in
           ⊎-elim (λ e. inl (e ∙ sym i)) (⊎-elim (λ e. inr (inl (e ∙ sym j))) (λ e. inr (inr (e ∙ sym k))))
-          (in-slot (passed-joined ok) (plan-three (plan-of (ok .points) ss ts) (ok .passes)) (tables .slotted) q p (f .inside) (f .touch))
+          (in-slot (passed-joined ok) (passed-three ok) (tables .slotted) q p (f .inside) (f .touch))
 
       go : (qs : List ℕ) → Goes ss ts c s t h p qs → Heads x qs ⊎ (Heads y qs ⊎ Heads z qs)
       go qs (last {q} f e) = at q f

@@ -9,4 +9,7 @@ pub mod Trying
 pub mod ThreeSlots
 pub mod Going
 pub mod Finding
+pub mod Asking
+pub mod Copying
 pub mod Checking
+pub mod Answering

@@ -6,3 +6,4 @@ pub mod Reach
 pub mod Looked
 pub mod Tried
 pub mod Searched
+pub mod Answer

@@ -5,15 +5,17 @@ ghost use Prim.Native.Nat.{ℕ, _+_, _≤_, _<_};
 ghost use lib.ListN.{length};
 ghost use Rattle.rules.specs.Plan.{plan-of};
 ghost use Rattle.pullout.specs.Marks.{Covers, unmarked};
-ghost use Rattle.pullout.specs.Tables.{Tables, Arrived};
+ghost use Rattle.pullout.specs.Tables.{Passes, TurnTable, Tables, Arrived};
 ghost use Rattle.pullout.specs.Looked.{Goes, Bounded};
 ghost use Rattle.pullout.specs.Tried.{Over, Tried};
 ghost use Rattle.pullout.specs.Searched.{Searched, Suits};
+use crate::cut::cut_for;
 use crate::look::Look;
 use crate::look::look_ahead;
 use crate::marks::Try;
 use crate::marks::first_try;
 use crate::marks::go_past;
+use plan::slots::index;
 use plan::slots::slot_at;
 
 // Tries the point p, come there over section h: its sections in ascending order. What is found is written from place d on, and
@@ -107,4 +109,23 @@ pub fn first_pull_out(
 {
     let t = first_try(p, need);
     try_point(sections, turns, slots, table, cut, out, t, c, s, c, p, 0)
+}
+
+// The same, with the tables made here.
+pub fn find_pull_out(
+    sections: &[u32],
+    turns: &[u32],
+    table: &[u32; 1536],
+    out: &mut [u32],
+    need: u32,
+    c: u32,
+    p: u32,
+    s: u32,
+) -> usize
+    requires { ⌜ Passes (now sections) (now turns) × TurnTable (now sections) (now turns) (now table) × Arrived (now sections) c p × (0 < need) × (768 ≤ length (now out)) ⌝ }
+    ensures { λ r. ⌜ ((v : ℕ) → Searched (plan-of v (now (sections .entry)) (now (turns .entry))) need c p s (now (out .entry)) r (now (out .exit))) ⌝ }
+{
+    let slots = index(sections);
+    let cut = cut_for(sections, turns, &slots, table, c, p, s, need);
+    first_pull_out(sections, turns, &slots, table, &cut, out, need, c, p, s)
 }
