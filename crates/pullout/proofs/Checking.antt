@@ -18,11 +18,10 @@ use Rattle.rules.proofs.Sound.{sound-plan}
 use Rattle.plan.proofs.Known.{plan-joined, plan-three}
 use Rattle.plan.proofs.Touching.{touch-A, touch-B, touch-cases}
 use Rattle.pullout.specs.Tables.{Passes, Tables, Arrived}
-use Rattle.pullout.specs.Reach.{top, bound-at, Follows, Onward, Rule, RightAt, Right, Begins, Unknown}
+use Rattle.pullout.specs.Reach.{top, bound-at, Follows, Onward, Rule, RightAt, Right, Begins}
 use Rattle.pullout.specs.Searched.{Suits}
-use Rattle.pullout.proofs.Entering.{passed-joined, entry, entry-T, T-entry, section-low}
+use Rattle.pullout.proofs.Entering.{entry, entry-T, T-entry, section-low}
 use Rattle.pullout.proofs.ThreeSlots.{in-slot}
-use Rattle.pullout.proofs.Unknown.{unknown-right, unknown-begins}
 
 -- a check that says no claims nothing
 pub says-no : {A : Type 0} → false ≡ true → A
@@ -123,15 +122,7 @@ pub begins-there : {ss bounds : List ℕ} {n c p gate left : ℕ} → gate ≡ b
     → Begins (of-sections ss) bounds n c p
 begins-there i z j l = record { gate = sym i ∙ z; left = rw (← j) l }
 
--- bounds that passed the check suit the search, and those that say nothing do
-pub found-suit : {ss ts bounds : List ℕ} {n c p s : ℕ} → Begins (of-sections ss) bounds n c p → Right (plan-of 0 ss ts) (may-use any-section c s) bounds
+-- bounds that passed the check suit the search
+pub found-suits : {ss ts bounds : List ℕ} {n c p s : ℕ} → Begins (of-sections ss) bounds n c p → Right (plan-of 0 ss ts) (may-use any-section c s) bounds
     → Suits ss ts bounds n c p s
-found-suit b r = record { right = r; begins = record { gate = b .gate; left = b .left } }
-
-pub unknown-suit : {ss ts bounds : List ℕ} {n c p s : ℕ} → Passes ss ts → Arrived ss c p → n ≤ top → Unknown bounds → Suits ss ts bounds n c p s
-unknown-suit {ss} {ts} {n} {c} {p} {s} ok a l u =
-    let few = passed-joined ok .few in
-    record {
-      right = unknown-right (plan-of 0 ss ts) few u (may-use any-section c s);
-      begins = unknown-begins (plan-of 0 ss ts) few u n c p l (a .inside);
-    }
+found-suits b r = record { right = r; begins = record { gate = b .gate; left = b .left } }

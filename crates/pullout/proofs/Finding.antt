@@ -14,11 +14,14 @@ use Rattle.rules.proofs.Ways.{may-use, only, Fits, Way, last, next, fewer-marks
 use Rattle.rules.proofs.PullWays.{first-pull, no-pull}
 use Rattle.pullout.specs.declared.marks.Try.{Try}
 use Rattle.pullout.specs.Marks.{marked, Begun}
-use Rattle.pullout.specs.Reach.{Held}
+use Rattle.pullout.specs.Reach.{top, Unknown, Held}
+use Rattle.pullout.specs.Tables.{Passes, Arrived}
 use Rattle.pullout.specs.Looked.{Goes, Bounded}
 use Rattle.pullout.specs.Tried.{Tried, none, smallest}
 use Rattle.pullout.specs.Searched.{Searched, none-there, first-there, Suits}
 use Rattle.pullout.proofs.Reach.{held-first, held-marks}
+use Rattle.pullout.proofs.Unknown.{unknown-right, unknown-begins}
+use Rattle.pullout.proofs.Entering.{passed-joined}
 
 -- a way does not ask how many points the plan has
 module _ {ss ts : List ℕ} {may : ℕ → Bool} (v w : ℕ) where
@@ -53,3 +56,11 @@ module _ {ss ts : List ℕ} (c s : ℕ) {p n : ℕ} {t : Try} (begun : Begun p n
     where
       front : qs ++ drop (0 + length qs) b ≡ qs ++ drop (length qs) b
       front = let e : 0 + length qs ≡ length qs = omega arith in rw e refl
+
+-- the table that says nothing suits every pull-out
+pub unknown-suits : {ss ts bounds : List ℕ} {n c p s : ℕ} → Passes ss ts → Arrived ss c p → n ≤ top → Unknown bounds → Suits ss ts bounds n c p s
+unknown-suits {ss} {ts} {n} {c} {p} {s} ok a l u =
+    record {
+      right = unknown-right (plan-of 0 ss ts) (passed-joined ok .few) u (may-use any-section c s);
+      begins = unknown-begins (plan-of 0 ss ts) (passed-joined ok .few) u n c p l (a .inside);
+    }

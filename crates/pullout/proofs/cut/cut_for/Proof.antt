@@ -1,7 +1,8 @@
 -- `cut::cut_for` meets its contract: what it returns has passed the check, or says nothing.
 -- Assumes nothing.
 use native.Mathlib.Omega.{arith}
-use Rattle.pullout.proofs.Checking.{found-suit, unknown-suit}
+use Rattle.pullout.proofs.Checking.{found-suits}
+use Rattle.pullout.proofs.Finding.{unknown-suits}
 use Rattle.pullout.proofs.Entering.{section-low}
 use borrow.Author.Needs.{needs}
 use Rattle.pullout.proofs.cut.cut_for.Statement.{statement}
@@ -17,13 +18,13 @@ right-everywhere-requires : tie.Need-right-everywhere-requires
 right-everywhere-requires c κs = c .before .before .before .before .before .before .before .pre .0
 
 returns : tie.Need-returns
-returns c = found-suit (c .before .before .before .before .may-begin .ensures (c .before .before .before .if1 .taken)) (c .before .right-everywhere .ensures (c .if2 .taken))
+returns c = found-suits (c .before .before .before .before .may-begin .ensures (c .before .before .before .if1 .taken)) (c .before .right-everywhere .ensures (c .if2 .taken))
 
 no-bounds-requires : tie.Need-no-bounds-requires
 no-bounds-requires c κs = search needs
 
 returns-2 : tie.Need-returns-2
-returns-2 c = unknown-suit (c .before .before .before .before .before .before .before .pre .0 .checked) (c .before .before .before .before .before .before .before .pre .1) (omega arith) (c .no-bounds .ensures)
+returns-2 c = unknown-suits (c .before .before .before .before .before .before .before .pre .0 .checked) (c .before .before .before .before .before .before .before .pre .1) (omega arith) (c .no-bounds .ensures)
 
 pub cut-for-spec : {M : Type 1} → statement M
 cut-for-spec =
