@@ -1,11 +1,11 @@
 // The pull-out of one reversal: refusals 1 to 7, 15, 16 and 14, and the first pull-out.
 mod asked;
-pub mod bounds;
+mod bounds;
 mod copy;
 pub mod cut;
 mod gates;
-pub mod look;
-pub mod marks;
+mod look;
+mod marks;
 mod onward;
 mod right;
 mod runs;

@@ -148,43 +148,16 @@ fn right_arrival(
     if bound_at(sections, bounds, LEFT, h, p) == 0 {
         return true;
     }
-    if !right_section(
-        sections,
-        turns,
-        table,
-        bounds,
-        c,
-        s,
-        h,
-        p,
-        slot_at(slots, p, 0),
-    ) {
+    let x = slot_at(slots, p, 0);
+    if !right_section(sections, turns, table, bounds, c, s, h, p, x) {
         return false;
     }
-    if !right_section(
-        sections,
-        turns,
-        table,
-        bounds,
-        c,
-        s,
-        h,
-        p,
-        slot_at(slots, p, 1),
-    ) {
+    let y = slot_at(slots, p, 1);
+    if !right_section(sections, turns, table, bounds, c, s, h, p, y) {
         return false;
     }
-    right_section(
-        sections,
-        turns,
-        table,
-        bounds,
-        c,
-        s,
-        h,
-        p,
-        slot_at(slots, p, 2),
-    )
+    let z = slot_at(slots, p, 2);
+    right_section(sections, turns, table, bounds, c, s, h, p, z)
 }
 
 // The rule of every arrival.
