@@ -2,7 +2,7 @@
 -- Assumes nothing.
 use mathlib.Core.Path.{_≡_, refl, sym, ap, _∙_}
 use mathlib.Core.Logic.{_≢_}
-use mathlib.Core.Bool.{Bool, true, false, not, _&&_}
+use mathlib.Core.Bool.{Bool, true, false, not}
 use mathlib.Core.List.{List, [], _∷_, _++_}
 use Prim.Native.Nat.{ℕ, _/_, _≤_, _<_}
 use native.Mathlib.Omega.{arith}
@@ -21,7 +21,7 @@ use Rattle.plan.specs.declared.Checked.{Checked}
 use Rattle.plan.specs.declared.Checked.the-variants.{Passed, Refused}
 use Rattle.plan.specs.Answer.{verdict-of, checked-of}
 use Rattle.plan.proofs.Answers.{verdict-back}
-use Rattle.pullout.specs.Tables.{Passes, Arrived}
+use Rattle.pullout.specs.Tables.{Arrived}
 use Rattle.pullout.specs.Searched.{Searched, none-there, first-there}
 use Rattle.pullout.proofs.Asking.{met, both-there, comes}
 

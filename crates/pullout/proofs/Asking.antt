@@ -1,19 +1,19 @@
 -- What is asked for: an arrival, a section at its point, and the forbidden turn between them.
 -- Assumes nothing.
-use mathlib.Core.Path.{_≡_, refl, sym, _∙_}
+use mathlib.Core.Path.{_≡_, sym, _∙_}
 use mathlib.Core.Logic.{_≢_, ⊎-elim}
-use mathlib.Core.Bool.{Bool, true, false, not, _&&_, _||_}
+use mathlib.Core.Bool.{Bool, true, false, not, _&&_}
 use mathlib.Core.List.{List}
-use Prim.Native.Nat.{ℕ, _*_, _/_, _%_, _≤_, _<_}
+use Prim.Native.Nat.{ℕ, _*_, _/_, _%_, _<_}
 use native.Mathlib.Omega.{arith}
 use borrow.Author.Tests.{not-true, not-false}
 use lib.Dec.{T, eqb, eqb-refl, ltb, ltb→lt, lt→ltb}
 use Rattle.rules.specs.Plan.{plan-of, of-sections, section-count, turn-count, end-A, end-B, field, touches, arrivals, to-point, forbidden}
 use Rattle.rules.specs.PullAnswer.{reversal-of, turn-asked}
-use Rattle.rules.proofs.Tests.{and-T, T-or-left, T-or-right, gives-true, gives-false, gives-same, says-true}
+use Rattle.rules.proofs.Tests.{and-T, T-or-left, T-or-right, gives-false, gives-same}
 use Rattle.rules.proofs.Ranges.{some-T}
 use Rattle.rules.proofs.Branches.{and-on, and-off}
-use Rattle.rules.proofs.Sound.{SoundPlan, sound-plan, at-both-ends}
+use Rattle.rules.proofs.Sound.{sound-plan, at-both-ends}
 use Rattle.rules.proofs.TurnPoints.{is-turn, turn-cases}
 use Rattle.pullout.specs.Tables.{Passes, TurnTable, forbidden-by, Arrived}
 use Rattle.pullout.proofs.TurnsByPoint.{by-table}

@@ -14,7 +14,6 @@ use Rattle.rules.specs.Plan.{plan-of, of-sections, section-count, end-A, end-B,
 use Rattle.rules.specs.PullOut.{any-section}
 use Rattle.rules.proofs.Ways.{may-use}
 use Rattle.rules.proofs.Tests.{clash, says-true, says-false}
-use Rattle.rules.proofs.Sound.{sound-plan}
 use Rattle.plan.proofs.Known.{plan-joined, plan-three}
 use Rattle.plan.proofs.Touching.{touch-A, touch-B, touch-cases}
 use Rattle.pullout.specs.Tables.{Passes, Tables, Arrived}

@@ -1,27 +1,27 @@
 -- What the tests of a look come to: whether a section may be entered, and what it then is to a try.
 -- Assumes nothing.
-use mathlib.Core.Path.{_≡_, refl, sym, _∙_}
+use mathlib.Core.Path.{_≡_, sym, _∙_}
 use mathlib.Core.Logic.{_≢_}
 use mathlib.Core.Bool.{Bool, true, false, not, _&&_}
-use mathlib.Core.List.{List, _∷_}
+use mathlib.Core.List.{List}
 use Prim.Native.Nat.{ℕ, _-_, _≤_, _<_}
 use native.Mathlib.Omega.{arith}
 use borrow.Author.Tests.{not-true, not-false}
 use lib.Dec.{T, eqb, ltb, ltb→lt, lt→ltb}
 use Rattle.rules.specs.Plan.{plan-of, section-count, len, is-free, touches, far, free-from, forbidden}
 use Rattle.rules.specs.PullOut.{any-section}
-use Rattle.rules.proofs.Tests.{tests, clash, fails, and-T, T-and, gives-true, gives-false, gives-same, says-true, says-false}
+use Rattle.rules.proofs.Tests.{tests, clash, and-T, T-and, gives-false, gives-same, says-true, says-false}
 use Rattle.rules.proofs.Ways.{may-use, way-fits, way-onward, free-whole}
 use Rattle.rules.proofs.PullSearch.{fits, fits-T, T-fits}
 use Rattle.plan.specs.Ends.{Joined, AtMostThree}
 use Rattle.plan.proofs.Known.{plan-joined, plan-three}
 use Rattle.plan.proofs.Touching.{touch-below}
 use Rattle.pullout.specs.declared.marks.Try.{Try}
-use Rattle.pullout.specs.declared.look.Look.the-variants.{Shut, Last, On}
+use Rattle.pullout.specs.declared.look.Look.the-variants.{Shut, On}
 use Rattle.pullout.specs.Marks.{marked}
 use Rattle.pullout.specs.Tables.{Passes, TurnTable, forbidden-by, Arrived}
 use Rattle.pullout.specs.Reach.{reach-at}
-use Rattle.pullout.specs.Looked.{Enters, Goes, GoesOn, Looked, Bounded}
+use Rattle.pullout.specs.Looked.{Enters, GoesOn, Looked, Bounded}
 use Rattle.pullout.proofs.TurnsByPoint.{by-table}
 use Rattle.pullout.proofs.Reach.{at-far, cut}
 

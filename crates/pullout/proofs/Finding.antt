@@ -1,19 +1,18 @@
 -- The tries that begin at p are those of the pull-outs for (c, p, s).
 -- Assumes nothing.
-use mathlib.Core.Path.{_≡_, refl, sym, ap, _∙_}
+use mathlib.Core.Path.{_≡_, refl, _∙_}
 use mathlib.Core.Bool.{Bool}
 use mathlib.Core.List.{List, _++_}
 use Prim.Native.Nat.{ℕ, _+_, _≤_, _<_}
 use native.Mathlib.Omega.{arith}
-use lib.Dec.{T}
 use lib.ListN.{length, drop}
-use lib.Seq.{sets, sets-eq}
+use lib.Seq.{sets-eq}
 use Rattle.rules.specs.Plan.{plan-of}
 use Rattle.rules.specs.PullOut.{any-section}
 use Rattle.rules.proofs.Ways.{may-use, only, Fits, Way, last, next, fewer-marks}
 use Rattle.rules.proofs.PullWays.{first-pull, no-pull}
 use Rattle.pullout.specs.declared.marks.Try.{Try}
-use Rattle.pullout.specs.Marks.{marked, Begun}
+use Rattle.pullout.specs.Marks.{Begun}
 use Rattle.pullout.specs.Reach.{top, Unknown, Held}
 use Rattle.pullout.specs.Tables.{Passes, Arrived}
 use Rattle.pullout.specs.Looked.{Goes, Bounded}

@@ -1,6 +1,6 @@
 -- The three slots of a point: they hold all its sections, in ascending order.
 -- Assumes nothing.
-use mathlib.Core.Path.{_≡_, sym, _∙_}
+use mathlib.Core.Path.{_≡_, sym}
 use mathlib.Core.Logic.{_⊎_, inl, inr}
 use mathlib.Core.List.{List}
 use Prim.Native.Nat.{ℕ, zero, suc, _+_, _*_, _≤_, _<_}
@@ -10,7 +10,7 @@ use lib.Dec.{T}
 use lib.ListN.{getD}
 use Rattle.rules.specs.Plan.{of-sections, section-count, touches}
 use Rattle.rules.specs.PlanCheck.{degree}
-use Rattle.plan.specs.Ends.{Joined, AtMostThree, Slots, no-section, degree-before}
+use Rattle.plan.specs.Ends.{Joined, AtMostThree, Slots, degree-before}
 use Rattle.plan.proofs.Counting.{Counted, count-mono, count-reaches}
 use Rattle.plan.proofs.SlotTable.{slot-low}
 

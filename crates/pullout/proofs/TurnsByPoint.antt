@@ -1,7 +1,7 @@
 -- The turn of each point in a table: how it is filled, and that it says which turns are forbidden.
 -- Assumes nothing.
 use mathlib.Core.Path.{_≡_, sym, _∙_}
-use mathlib.Core.Logic.{_≢_, _⊎_, inl, inr, ⊎-elim}
+use mathlib.Core.Logic.{_≢_, _⊎_, ⊎-elim}
 use mathlib.Core.Bool.{Bool, _&&_, _||_}
 use mathlib.Core.List.{List}
 use Prim.Native.Nat.{ℕ, _+_, _*_, _≤_, _<_}
@@ -10,7 +10,7 @@ use native.Mathlib.Decide.{ℕ-discrete, decLt}
 use lib.Dec.{T, eqb, eqb→eq}
 use lib.ListN.{length, getD, set, length-set, replicate, length-replicate, getD-replicate}
 use lib.Seq.{getD-set-same, getD-set-other}
-use Rattle.rules.specs.Plan.{plan-of, of-sections, section-count, turn-count, turn-section, turn-point, forbidden}
+use Rattle.rules.specs.Plan.{plan-of, turn-count, turn-section, turn-point, forbidden}
 use Rattle.rules.proofs.Tests.{and-T, or-T, gives-same}
 use Rattle.rules.proofs.Ranges.{T-some}
 use Rattle.rules.proofs.Sound.{SoundPlan, sound-plan}

@@ -1,7 +1,6 @@
 // What is asked for: refusal 15.
 ghost use mathlib.Core.Path.{_≡_};
 ghost use mathlib.Core.Bool.{_&&_};
-ghost use mathlib.Core.List.{[]};
 ghost use lib.Dec.{ltb};
 ghost use Rattle.rules.specs.Plan.{plan-of, of-sections, section-count, arrivals, to-point, touches};
 ghost use Rattle.rules.specs.PullAnswer.{reversal-of, turn-asked};

@@ -6,11 +6,11 @@ use mathlib.Core.Bool.{Bool, not}
 use mathlib.Core.List.{List, [], _∷_, List·Memᴰ, List·Memᴰ·head as at-head}
 use Prim.Native.Nat.{ℕ, _<_}
 use lib.Dec.{T}
-use Rattle.rules.specs.Plan.{Plan, section-count, turn-section, touches, forbidden}
+use Rattle.rules.specs.Plan.{Plan, section-count, touches, forbidden}
 use Rattle.rules.specs.PullOut.{Chain, chain, Turns, turns, turns-end, PullOut, FirstPullOut, NoPullOut}
 use Rattle.rules.proofs.Tests.{fails}
 use Rattle.rules.proofs.Sound.{SoundPlan}
-use Rattle.rules.proofs.TurnPoints.{is-turn, turn-cases, turn-swap, turn-there, same-turn}
+use Rattle.rules.proofs.TurnPoints.{turn-cases, turn-swap, turn-there, same-turn}
 
 -- of two pairs of different numbers that are the same turn, the second members are the same where the first are
 other-one : {a b s c q : ℕ} → s ≢ c → ((a ≡ c) × (b ≡ s)) ⊎ ((a ≡ s) × (b ≡ c)) → ((a ≡ s) × (b ≡ q)) ⊎ ((a ≡ q) × (b ≡ s)) → q ≡ c

@@ -1,14 +1,14 @@
 -- Where a forbidden turn lies: two sections of a checked plan share one point, and that point has one turn.
 -- Assumes nothing.
-use mathlib.Core.Path.{_≡_, refl, sym, _∙_}
+use mathlib.Core.Path.{_≡_, sym, _∙_}
 use mathlib.Core.Logic.{_≢_, _⊎_, inl, inr, ⊎-elim}
 use mathlib.Core.Bool.{Bool, _&&_, _||_}
-use Prim.Native.Nat.{ℕ, _+_, _<_}
+use Prim.Native.Nat.{ℕ, _<_}
 use native.Mathlib.Omega.{arith}
 use native.Mathlib.Decide.{decLt, ℕ-discrete}
-use lib.Dec.{T, eqb, eqb→eq, eqb-refl}
+use lib.Dec.{T, eqb, eqb-refl}
 use Rattle.rules.specs.Plan.{Plan, section-count, turn-count, end-A, end-B, touches, same-ends, turn-section, turn-point, forbidden}
-use Rattle.rules.proofs.Tests.{tests, clash, and-T, T-and, or-T, T-or-left, T-or-right}
+use Rattle.rules.proofs.Tests.{tests, clash, T-and, or-T, T-or-left, T-or-right}
 use Rattle.rules.proofs.Ranges.{some-T, T-some}
 use Rattle.rules.proofs.Sound.{SoundPlan}
 use Rattle.rules.proofs.Ways.{two-ends}

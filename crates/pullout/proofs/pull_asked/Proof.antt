@@ -1,6 +1,5 @@
 -- `pull_asked` meets its contract: what the search has found decides between 16, 14 and success.
 -- Assumes nothing.
-use mathlib.Core.Path.{_∙_}
 use native.Mathlib.Omega.{arith}
 use Prim.Native.Nat.{ℕ}
 use lib.ListN.{length-replicate}

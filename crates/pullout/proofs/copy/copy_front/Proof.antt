@@ -1,7 +1,7 @@
 -- `copy::copy_front` meets its contract. The loop's invariant: the first i numbers are written, and the rest is as it was. The
 -- measure is what is left to write.
 -- Assumes nothing.
-use mathlib.Core.Path.{_≡_, refl, _∙_}
+use mathlib.Core.Path.{_≡_, refl}
 use mathlib.Core.List.{_++_}
 use Prim.Native.Nat.{_-_, _≤_}
 use native.Mathlib.Omega.{arith}

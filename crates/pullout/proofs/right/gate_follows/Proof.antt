@@ -2,7 +2,6 @@
 -- Assumes nothing.
 use borrow.Author.Tests.{eqb-true}
 use Rattle.pullout.specs.Reach.{none-known, passed-now, passed-before}
-use borrow.Author.Needs.{needs}
 use Rattle.pullout.proofs.right.gate_follows.Statement.{statement}
 use Rattle.pullout.proofs.right.gate_follows.Tie as tie
 

@@ -1,7 +1,6 @@
 -- `right::right_onward` meets its contract: what was read is put for what is asked.
 -- Assumes nothing.
 use native.Mathlib.Omega.{arith}
-use mathlib.Core.Path.{sym}
 use borrow.Author.Tests.{not-false}
 use Rattle.pullout.proofs.Checking.{says-no, onward-right}
 use borrow.Author.Needs.{needs}

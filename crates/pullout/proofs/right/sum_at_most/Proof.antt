@@ -3,7 +3,6 @@
 use native.Mathlib.Omega.{arith}
 use borrow.Author.Tests.{leb-true}
 use Rattle.pullout.proofs.Checking.{says-no}
-use borrow.Author.Needs.{needs}
 use Rattle.pullout.proofs.right.sum_at_most.Statement.{statement}
 use Rattle.pullout.proofs.right.sum_at_most.Tie as tie
 
