@@ -80,6 +80,7 @@ typedef struct {
  *   section    the section onto which it is to go
  *   list       on success its front holds the section numbers, from the point outwards; the rest keeps its contents
  * Refusals: 1 to 7, 15, 16, 14, in this order. A refused call writes nothing.
+ * It takes up to 2.2 MB of stack, and on some plans its time is not bounded by anything useful: docs/LIMITS.md.
  * Proved: what is found is a pull-out and the first one; 16 is given exactly when there is none
  * (finder_pull_out's contract in crates/finder/src/lib.rt; theorem pull-unique). */
 finder_pull finder_pull_out(uint32_t points, const uint32_t *sections, size_t sections_len, const uint32_t *turns,
