@@ -68,9 +68,9 @@ fn pulled(answer: Pulled) -> Pull
             place: 0,
             count: count,
         },
-        Pulled::Refused(number, place) => Pull {
+        Pulled::Refused(number, at) => Pull {
             refusal: number,
-            place: place,
+            place: at,
             count: 0,
         },
     }
