@@ -7,6 +7,7 @@ pub mod Pigeon
 pub mod Walks
 pub mod Simple
 pub mod First
+pub mod Alike
 pub mod Sound
 pub mod Trips
 pub mod SearchAnswers
