@@ -5,7 +5,7 @@ ghost use Prim.Native.Nat.{_≤_};
 ghost use lib.ListN.{length, take, drop};
 
 // The first numbers of a list go into the front of another.
-pub(crate) fn copy_front(from: &[u32], list: &mut [u32], count: usize)
+pub fn copy_front(from: &[u32], list: &mut [u32], count: usize)
     requires { ⌜ (count ≤ length (now from)) × (count ≤ length (now list)) ⌝ }
     ensures { λ _. ⌜ now (list .exit) ≡ take count (now (from .entry)) ++ drop count (now (list .entry)) ⌝ }
 {

@@ -1,7 +1,7 @@
 // The pull-out of one reversal: refusals 1 to 7, 15, 16 and 14, and the first pull-out.
 mod asked;
 mod bounds;
-mod copy;
+pub mod copy;
 pub mod cut;
 mod gates;
 mod look;

@@ -1,0 +1,4 @@
+-- Laws of the search.
+pub mod StepNet
+pub mod Solving
+pub mod Answering

@@ -1,0 +1,69 @@
+use borrow.Author.Needs.{needs}
+use Rattle.search.proofs.find_route.Statement.{statement}
+use Rattle.search.proofs.find_route.Tie as tie
+use Rattle.search.proofs.find_route.Reads as reads
+use Rattle.search.proofs.find_route.Lts as lts
+use Rattle.plan.proofs.slots.index.Reads as index-reads
+use Rattle.pullout.proofs.turn_table.turn_table.Reads as turn-table-reads
+use Rattle.search.proofs.solve.solve.Reads as solve-reads
+use Rattle.search.proofs.write.write_answer.Reads as write-answer-reads
+
+-- src/lib.rt:50:17
+index-requires : tie.Need-index-requires
+index-requires c κs = ?
+
+-- src/lib.rt:51:17
+turn-table-requires : tie.Need-turn-table-requires
+turn-table-requires c κs = ?
+
+-- src/lib.rt:54:63
+slice-aggregate-solve : tie.Need-slice-aggregate-solve
+slice-aggregate-solve c = search needs
+
+-- src/lib.rt:54:75
+slice-aggregate-solve-2 : tie.Need-slice-aggregate-solve-2
+slice-aggregate-solve-2 c = search needs
+
+-- src/lib.rt:54:9
+solve-requires : tie.Need-solve-requires
+solve-requires c κs = ?
+
+-- src/lib.rt:55:50
+slice-aggregate-write-answer : tie.Need-slice-aggregate-write-answer
+slice-aggregate-write-answer c = search needs
+
+-- src/lib.rt:55:58
+slice-aggregate-write-answer-2 : tie.Need-slice-aggregate-write-answer-2
+slice-aggregate-write-answer-2 c = search needs
+
+-- src/lib.rt:55:5
+write-answer-requires : tie.Need-write-answer-requires
+write-answer-requires c κs = search needs
+
+-- src/lib.rt:40:1
+same-length : tie.Need-same-length
+same-length c = search needs
+
+-- src/lib.rt:40:1
+same-length-2 : tie.Need-same-length-2
+same-length-2 c = search needs
+
+-- src/lib.rt:40:1
+returns : tie.Need-returns
+returns c = search needs
+
+pub find-route-spec : {M : Type 1} → statement M
+find-route-spec =
+    tie.close
+    (tie.spec
+    index-requires
+    turn-table-requires
+    slice-aggregate-solve
+    slice-aggregate-solve-2
+    solve-requires
+    slice-aggregate-write-answer
+    slice-aggregate-write-answer-2
+    write-answer-requires
+    same-length
+    same-length-2
+    returns)

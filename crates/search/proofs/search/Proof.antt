@@ -1,0 +1,52 @@
+use borrow.Author.Needs.{needs}
+use Rattle.search.proofs.search.Statement.{statement}
+use Rattle.search.proofs.search.Tie as tie
+use Rattle.search.proofs.search.Reads as reads
+use Rattle.search.proofs.search.Lts as lts
+use Rattle.plan.proofs.check_plan.Reads as check-plan-reads
+use Rattle.search.proofs.search_plan.Reads as search-plan-reads
+
+-- src/lib.rt:112:9
+check-plan-requires : tie.Need-check-plan-requires
+check-plan-requires c κs = search needs
+
+-- src/lib.rt:114:26
+enum-known-checked : tie.Need-enum-known-checked
+enum-known-checked c = search needs
+
+-- src/lib.rt:115:64
+enum-told : tie.Need-enum-told
+enum-told c = search needs
+
+-- src/lib.rt:115:28
+search-plan-requires : tie.Need-search-plan-requires
+search-plan-requires c κs = ?
+
+-- src/lib.rt:90:1
+returns : tie.Need-returns
+returns c = ?
+
+-- src/lib.rt:90:1
+same-length : tie.Need-same-length
+same-length c = search needs
+
+-- src/lib.rt:90:1
+same-length-2 : tie.Need-same-length-2
+same-length-2 c = search needs
+
+-- src/lib.rt:90:1
+returns-2 : tie.Need-returns-2
+returns-2 c = search needs
+
+pub search-spec : {M : Type 1} → statement M
+search-spec =
+    tie.close
+    (tie.spec
+    check-plan-requires
+    enum-known-checked
+    enum-told
+    search-plan-requires
+    returns
+    same-length
+    same-length-2
+    returns-2)

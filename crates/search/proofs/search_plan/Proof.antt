@@ -1,0 +1,62 @@
+use borrow.Author.Needs.{needs}
+use Rattle.search.proofs.search_plan.Statement.{statement}
+use Rattle.search.proofs.search_plan.Tie as tie
+use Rattle.search.proofs.search_plan.Reads as reads
+use Rattle.search.proofs.search_plan.Lts as lts
+use Rattle.search.proofs.find_route.Reads as find-route-reads
+use Rattle.train.proofs.check_train.Reads as check-train-reads
+
+-- src/lib.rt:69:9
+check-train-requires : tie.Need-check-train-requires
+check-train-requires c κs = search needs
+
+-- src/lib.rt:78:26
+enum-known-checked : tie.Need-enum-known-checked
+enum-known-checked c = search needs
+
+-- src/lib.rt:80:16
+enum-told : tie.Need-enum-told
+enum-told c = search needs
+
+-- src/lib.rt:80:32
+mul-if1 : tie.Need-mul-if1
+mul-if1 c = search needs
+
+-- src/lib.rt:81:17
+returns : tie.Need-returns
+returns c = ?
+
+-- src/lib.rt:83:13
+find-route-requires : tie.Need-find-route-requires
+find-route-requires c κs = ?
+
+-- src/lib.rt:59:1
+returns-2 : tie.Need-returns-2
+returns-2 c = ?
+
+-- src/lib.rt:59:1
+same-length : tie.Need-same-length
+same-length c = search needs
+
+-- src/lib.rt:59:1
+same-length-2 : tie.Need-same-length-2
+same-length-2 c = search needs
+
+-- src/lib.rt:59:1
+returns-3 : tie.Need-returns-3
+returns-3 c = search needs
+
+pub search-plan-spec : {M : Type 1} → statement M
+search-plan-spec =
+    tie.close
+    (tie.spec
+    check-train-requires
+    enum-known-checked
+    enum-told
+    mul-if1
+    returns
+    find-route-requires
+    returns-2
+    same-length
+    same-length-2
+    returns-3)

@@ -1,0 +1,52 @@
+-- `list_steps` meets its contract: both tables are filled.
+-- Assumes nothing.
+use borrow.Author.Needs.{needs}
+use Rattle.search.proofs.solve.list_steps.Statement.{statement}
+use Rattle.search.proofs.solve.list_steps.Tie as tie
+use Rattle.search.proofs.solve.list_steps.Reads as reads
+use Rattle.search.proofs.solve.list_steps.Lts as lts
+use Rattle.search.proofs.stub.fill_ends.Reads as fill-ends-reads
+use Rattle.search.proofs.stub.fill_steps.Reads as fill-steps-reads
+
+-- src/solve.rt:52:5
+fill-steps-requires : tie.Need-fill-steps-requires
+fill-steps-requires c κs = search needs
+
+-- src/solve.rt:53:5
+fill-ends-requires : tie.Need-fill-ends-requires
+fill-ends-requires c κs = search needs
+
+-- src/solve.rt:39:1
+same-length : tie.Need-same-length
+same-length c = search needs
+
+-- src/solve.rt:39:1
+same-length-2 : tie.Need-same-length-2
+same-length-2 c = search needs
+
+-- src/solve.rt:39:1
+same-length-3 : tie.Need-same-length-3
+same-length-3 c = search needs
+
+-- src/solve.rt:39:1
+returns : tie.Need-returns
+returns c =
+    let s = c .before .before .before .before .before .before .before .before .before .before .before .before .before .before .before .before in
+    record {
+      steps = c .before .before .before .before .before .before .before .before .fill-steps .ensures (s .args .asked .points) (s .args .asked .leave) (s .args .asked .enter);
+      endings = c .before .before .fill-ends .ensures (s .args .asked .points) (s .args .turns .now) (s .args .asked .length) (s .args .asked .start) (s .args .asked .leave);
+      next-long = search needs;
+      cost-long = search needs;
+      ends-long = search needs;
+    }
+
+pub list-steps-spec : {M : Type 1} → statement M
+list-steps-spec =
+    tie.close
+    (tie.spec
+    fill-steps-requires
+    fill-ends-requires
+    same-length
+    same-length-2
+    same-length-3
+    returns)

@@ -1,0 +1,4 @@
+-- What the search's inner functions hand on, and what its answer means.
+pub mod Asked
+pub mod Solved
+pub mod Answer

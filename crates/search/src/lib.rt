@@ -1,0 +1,117 @@
+// The search.
+mod solve;
+mod stub;
+mod write;
+
+ghost use mathlib.Core.Path.{_≡_};
+ghost use lib.ListN.{length};
+ghost use Rattle.rules.specs.Plan.{plan-of};
+ghost use Rattle.rules.specs.Refusals.{verdict, passed};
+ghost use Rattle.rules.specs.PlanCheck.{plan-checks};
+ghost use Rattle.rules.specs.Query.{query-of};
+ghost use Rattle.rules.specs.Search.{Answer};
+ghost use Rattle.search.specs.Asked.{query-asked, Accepted};
+ghost use Rattle.search.specs.Answer.{result-of};
+use plan::Checked;
+use plan::check_plan;
+use plan::slots::index;
+use pullout::turn_table::turn_table;
+use solve::solve;
+use train::check_train;
+use write::write_answer;
+
+// What is asked, besides the tables of the plan.
+pub struct Asked {
+    pub points: u32,
+    pub length: u32,
+    pub start: u32,
+    pub leave: u32,
+    pub finish: u32,
+    pub enter: u32,
+}
+
+// What is answered: a walk's total, reversals and steps, or a refusal's number and place.
+pub enum Routed {
+    Found(u32, u32, u32),
+    Refused(u32, u32),
+}
+
+// Refusals 12 and 14 and the walk, where 1 to 11 do not apply.
+fn find_route(
+    sections: &[u32],
+    turns: &[u32],
+    asked: Asked,
+    route: &mut [u32],
+    labels: &mut [u32],
+) -> Routed
+    requires { ⌜ Accepted (query-asked asked (now sections) (now turns)) (length (now labels)) ⌝ }
+    ensures { λ r. ⌜ Answer (query-asked asked (now (sections .entry)) (now (turns .entry))) (now (route .entry)) (now (labels .entry)) (result-of r (now (route .exit)) (now (labels .exit))) ⌝ }
+{
+    let slots = index(sections);
+    let table = turn_table(sections, turns);
+    let mut known = [4294967295; 2048];
+    let mut walk = [0; 2048];
+    let steps = solve(sections, turns, &slots, &table, asked, &mut known, &mut walk);
+    write_answer(sections, turns, &table, asked, &known, &walk, steps, route, labels)
+}
+
+// Refusals 7 to 11, where the plan has passed, and then the others.
+fn search_plan(
+    sections: &[u32],
+    turns: &[u32],
+    asked: Asked,
+    route: &mut [u32],
+    labels: &mut [u32],
+) -> Routed
+    requires { ⌜ verdict (plan-checks (plan-of (asked .points) (now sections) (now turns))) ≡ passed ⌝ }
+    ensures { λ r. ⌜ Answer (query-asked asked (now (sections .entry)) (now (turns .entry))) (now (route .entry)) (now (labels .entry)) (result-of r (now (route .exit)) (now (labels .exit))) ⌝ }
+{
+    let checked = check_train(
+        sections,
+        asked.length,
+        asked.start,
+        asked.leave,
+        asked.finish,
+        asked.enter,
+    );
+    match checked {
+        Checked::Refused(number, place) => Routed::Refused(number, place),
+        Checked::Passed => {
+            if labels.len() != 2 * (sections.len() / 6) {
+                return Routed::Refused(11, 0);
+            }
+            find_route(sections, turns, asked, route, labels)
+        }
+    }
+}
+
+// The first shortest walk of a train of this length from the section start, which it leaves by the end leave, to the section
+// finish, which it enters by the end enter: any numbers, any lengths of the tables and of the buffers.
+pub fn search(
+    points: u32,
+    sections: &[u32],
+    turns: &[u32],
+    length: u32,
+    start: u32,
+    leave: u32,
+    finish: u32,
+    enter: u32,
+    route: &mut [u32],
+    labels: &mut [u32],
+) -> Routed
+    ensures { λ r. ⌜ Answer (query-of (plan-of points (now (sections .entry)) (now (turns .entry))) length start leave finish enter) (now (route .entry)) (now (labels .entry)) (result-of r (now (route .exit)) (now (labels .exit))) ⌝ }
+{
+    let asked = Asked {
+        points,
+        length,
+        start,
+        leave,
+        finish,
+        enter,
+    };
+    let checked = check_plan(points, sections, turns);
+    match checked {
+        Checked::Refused(number, place) => Routed::Refused(number, place),
+        Checked::Passed => search_plan(sections, turns, asked, route, labels),
+    }
+}

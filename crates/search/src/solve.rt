@@ -1,0 +1,77 @@
+// All remaining distances and the first shortest walk of a query that has passed its checks.
+ghost use Prim.Native.Nat.{_≤_, _<_};
+ghost use lib.ListN.{length};
+ghost use Rattle.rules.proofs.Sound.{Sound};
+ghost use Rattle.pullout.specs.Tables.{Tables};
+ghost use Rattle.distance.specs.Table.{table-net, Table};
+ghost use Rattle.search.specs.Asked.{query-asked};
+ghost use Rattle.search.specs.Solved.{Listing, SolvedOver, Solved};
+use crate::Asked;
+use crate::stub::fill_ends;
+use crate::stub::fill_steps;
+use crate::stub::first_walk;
+use crate::stub::remaining;
+use train::place::start_arrival;
+use train::room::finish_room;
+
+// The labels of so many arrivals of a table, and, where its label is a number, the walk from one of them.
+fn solve_over(
+    next: &[u32],
+    cost: &[u32],
+    ends: &[u32],
+    room: u32,
+    count: usize,
+    from: usize,
+    known: &mut [u32],
+    walk: &mut [u32],
+) -> usize
+    requires { ⌜ Table (now next) (now cost) (now ends) room count × (from < count) × (count ≤ length (now known)) × (count ≤ length (now walk)) ⌝ }
+    ensures { λ r. ⌜ SolvedOver (table-net (now (next .entry)) (now (cost .entry)) (now (ends .entry)) room count) count from (now (known .exit)) (now (walk .exit)) r ⌝ }
+{
+    remaining(next, cost, ends, room, count, known);
+    if known[from] == 4294967295 {
+        return 0;
+    }
+    first_walk(next, cost, ends, room, count, known, from, walk)
+}
+
+// The steps of what is asked, and where its walks may end.
+fn list_steps(
+    sections: &[u32],
+    turns: &[u32],
+    slots: &[u32; 2304],
+    table: &[u32; 1536],
+    asked: Asked,
+    next: &mut [u32],
+    cost: &mut [u32],
+    ends: &mut [u32],
+)
+    requires { ⌜ Sound (query-asked asked (now sections) (now turns)) × Tables (now sections) (now turns) (now slots) (now table) × (4096 ≤ length (now next)) × (4096 ≤ length (now cost)) × (2048 ≤ length (now ends)) ⌝ }
+    ensures { λ _. ⌜ Listing (query-asked asked (now (sections .entry)) (now (turns .entry))) (now (next .exit)) (now (cost .exit)) (now (ends .exit)) ⌝ }
+{
+    fill_steps(sections, turns, slots, table, asked.length, asked.start, asked.finish, next, cost);
+    fill_ends(sections, asked.finish, asked.enter, ends);
+}
+
+// All labels and the walk of what is asked; the answer is how many steps the walk has.
+pub fn solve(
+    sections: &[u32],
+    turns: &[u32],
+    slots: &[u32; 2304],
+    table: &[u32; 1536],
+    asked: Asked,
+    known: &mut [u32],
+    walk: &mut [u32],
+) -> usize
+    requires { ⌜ Sound (query-asked asked (now sections) (now turns)) × Tables (now sections) (now turns) (now slots) (now table) × (2048 ≤ length (now known)) × (2048 ≤ length (now walk)) ⌝ }
+    ensures { λ r. ⌜ Solved (query-asked asked (now (sections .entry)) (now (turns .entry))) (now (known .exit)) (now (walk .exit)) r ⌝ }
+{
+    let mut next = [4294967295; 4096];
+    let mut cost = [0; 4096];
+    let mut ends = [0; 2048];
+    list_steps(sections, turns, slots, table, asked, &mut next, &mut cost, &mut ends);
+    let room = finish_room(sections, asked.length, asked.start, asked.finish, asked.enter);
+    let count = 2 * (sections.len() / 6);
+    let from = start_arrival(asked.start, asked.leave);
+    solve_over(&next, &cost, &ends, room, count, from, known, walk)
+}
