@@ -11,7 +11,7 @@ use borrow.Author.Tests.{eq-eqb, ne-eqb}
 use lib.ListN.{length, getD, List·getD-eq-default}
 use Rattle.rules.specs.Plan.{sec}
 use Rattle.rules.specs.Net.{no-distance, AtMost, above-all, within, KeepsRules}
-use Rattle.rules.proofs.Walks.{Bounded, Attained, unreached, at-end, by-step, attained-remaining}
+use Rattle.rules.proofs.Walks.{Bounded, Tight, Attained, unreached, at-end, by-step, attained-remaining}
 use Rattle.distance.specs.Table.{Listed, listed-cost, table-net, Table}
 use Rattle.distance.specs.Answer.{Exact}
 use Rattle.distance.specs.Labels.{offer, end-offer, best, Sizes, Settled}
@@ -94,6 +94,16 @@ best-second : (next cost ends : List ℕ) (room : ℕ) (labels : List ℕ) (a : 
 unfolding best
 best-second next cost ends room labels a e f = omega arith
 
+-- a place of a that offers its label, a number, has a tight step
+pub offered-step : {next cost ends : List ℕ} {room : ℕ} (labels : List ℕ) → Table next cost ends room (length labels) → (a k : ℕ) → a < length labels
+    → 2 * a ≤ k → k ≤ 2 * a + 1 → label-of labels a ≡ offer next cost labels k → label-of labels a < no-distance
+    → Listed next (length labels) a (getD next k no-distance)
+    × Tight (table-net next cost ends room (length labels)) (label-of labels) a (getD next k no-distance)
+offered-step {next} {cost} labels T a k h p q e m =
+    let o = offer-leads next cost labels k (omega arith) in
+    let c = cost-at T a k (getD next k no-distance) h p q refl (o .0) in
+    (record { from = h; to = o .0; place = k; low = p; high = q; leads = refl }, omega arith)
+
 module _ {next cost ends labels : List ℕ} {room : ℕ} (T : Table next cost ends room (length labels)) (S : Settled next cost ends room labels) where
   label-low : (a : ℕ) → a < length labels → label-of labels a ≤ no-distance
   label-low a h =
@@ -102,10 +112,7 @@ module _ {next cost ends labels : List ℕ} {room : ℕ} (T : Table next cost en
   -- a label that is a number and that a place of a offers is attained by the step of that place
   attained-by : (a k : ℕ) → a < length labels → 2 * a ≤ k → k ≤ 2 * a + 1 → label-of labels a ≡ offer next cost labels k
       → label-of labels a < no-distance → Attained (table-net next cost ends room (length labels)) (label-of labels) a
-  attained-by a k h p q e m =
-      let o = offer-leads next cost labels k (omega arith) in
-      let c = cost-at T a k (getD next k no-distance) h p q refl (o .0) in
-      by-step (getD next k no-distance) (record { from = h; to = o .0; place = k; low = p; high = q; leads = refl }) (omega arith) m
+  attained-by a k h p q e m = let s = offered-step labels T a k h p q e m in by-step (getD next k no-distance) (s .0) (s .1) m
 
   -- a settled label is what something offers
   attained : (a : ℕ) → a < length labels → Attained (table-net next cost ends room (length labels)) (label-of labels) a

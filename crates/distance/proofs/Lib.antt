@@ -5,3 +5,4 @@ pub mod Lowering
 pub mod TightNet
 pub mod Exactness
 pub mod Fronts
+pub mod Following

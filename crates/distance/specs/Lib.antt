@@ -2,3 +2,4 @@
 pub mod Table
 pub mod Answer
 pub mod Labels
+pub mod Picked
