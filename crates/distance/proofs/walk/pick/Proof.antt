@@ -1,0 +1,55 @@
+-- `walk::pick` meets its contract.
+-- Assumes nothing.
+use borrow.Author.Needs.{needs}
+use Rattle.distance.proofs.Following.{pick-first, pick-second}
+use Rattle.distance.proofs.walk.pick.Statement.{statement}
+use Rattle.distance.proofs.walk.pick.Tie as tie
+
+mul-k : tie.Need-mul-k
+mul-k c = search needs
+
+offer-requires : tie.Need-offer-requires
+offer-requires c κs = search needs
+
+mul-if1 : tie.Need-mul-if1
+mul-if1 c = search needs
+
+shared-slice-read-if1 : tie.Need-shared-slice-read-if1
+shared-slice-read-if1 c = search needs
+
+mul-result : tie.Need-mul-result
+mul-result c = search needs
+
+shared-slice-read-result : tie.Need-shared-slice-read-result
+shared-slice-read-result c = search needs
+
+returns : tie.Need-returns
+returns c = pick-first _ _ _ _ _ (search needs) (search needs) (c .before .before .before .offer .ensures) (c .before .if1 .taken)
+
+add-result : tie.Need-add-result
+add-result c = search needs
+
+mul-result-2 : tie.Need-mul-result-2
+mul-result-2 c = search needs
+
+shared-slice-read-result-2 : tie.Need-shared-slice-read-result-2
+shared-slice-read-result-2 c = search needs
+
+returns-2 : tie.Need-returns-2
+returns-2 c = pick-second _ _ _ _ _ (search needs) (search needs) (c .before .before .before .offer .ensures) (c .before .if1 .left)
+
+pub pick-spec : {M : Type 1} → statement M
+pick-spec =
+    tie.close
+    (tie.spec
+    mul-k
+    offer-requires
+    mul-if1
+    shared-slice-read-if1
+    mul-result
+    shared-slice-read-result
+    returns
+    add-result
+    mul-result-2
+    shared-slice-read-result-2
+    returns-2)

@@ -1,0 +1,56 @@
+// The remaining distances over a table of steps, and the first shortest walk.
+mod label;
+mod sweep;
+mod walk;
+mod worklist;
+
+ghost use Prim.Native.Nat.{_≤_, _<_};
+ghost use lib.ListN.{length, getD};
+ghost use Rattle.rules.specs.Net.{no-distance};
+ghost use Rattle.distance.specs.Table.{table-net, Table};
+ghost use Rattle.distance.specs.Labels.{Blank};
+ghost use Rattle.distance.specs.Answer.{Exact, Labels, Written};
+use sweep::settle;
+use walk::walk_from;
+use worklist::run_down;
+
+// The remaining distance of each arrival that has a label.
+fn remaining_of_all(next: &[u32], cost: &[u32], ends: &[u32], room: u32, labels: &mut [u32])
+    requires { ⌜ Table (now next) (now cost) (now ends) room (length (now labels)) × Blank (length (now labels)) (now labels) ⌝ }
+    ensures { λ _. ⌜ Exact (table-net (now (next .entry)) (now (cost .entry)) (now (ends .entry)) room (length (now (labels .entry)))) (length (now (labels .entry))) (now (labels .exit)) ⌝ }
+{
+    run_down(next, cost, ends, room, labels);
+    settle(next, cost, ends, room, labels);
+}
+
+// The remaining distance of each of the table's arrivals, into the front of labels, where "none" stands for each before.
+pub fn remaining(
+    next: &[u32],
+    cost: &[u32],
+    ends: &[u32],
+    room: u32,
+    count: usize,
+    labels: &mut [u32],
+)
+    requires { ⌜ Table (now next) (now cost) (now ends) room count × (count ≤ length (now labels)) × Blank count (now labels) ⌝ }
+    ensures { λ _. ⌜ Labels (table-net (now (next .entry)) (now (cost .entry)) (now (ends .entry)) room count) count (now (labels .entry)) (now (labels .exit)) ⌝ }
+{
+    remaining_of_all(next, cost, ends, room, &mut labels[..count]);
+}
+
+// The first shortest walk from an arrival that has one, into the front of walk, and how many steps it has.
+pub fn first_walk(
+    next: &[u32],
+    cost: &[u32],
+    ends: &[u32],
+    room: u32,
+    count: usize,
+    labels: &[u32],
+    from: usize,
+    walk: &mut [u32],
+) -> usize
+    requires { ⌜ Table (now next) (now cost) (now ends) room count × Exact (table-net (now next) (now cost) (now ends) room count) count (now labels) × (count ≤ length (now labels)) × (from < count) × (getD (now labels) from no-distance < no-distance) × (count ≤ length (now walk)) ⌝ }
+    ensures { λ r. ⌜ Written (table-net (now (next .entry)) (now (cost .entry)) (now (ends .entry)) room count) from (getD (now (labels .entry)) from no-distance) (now (walk .entry)) r (now (walk .exit)) × (r < count) ⌝ }
+{
+    walk_from(next, cost, ends, room, &labels[..count], from, walk)
+}
