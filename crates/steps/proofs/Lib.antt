@@ -1,0 +1,4 @@
+-- Laws that the functions' proofs cite.
+pub mod ArrivalOver
+pub mod Stepping
+pub mod TwoOthers

@@ -1,0 +1,2 @@
+// Every admissible step of a query's train as a plain table, the arrivals at which a walk may end, and the reversals of a walk.
+mod step;
