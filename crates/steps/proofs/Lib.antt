@@ -2,3 +2,4 @@
 pub mod ArrivalOver
 pub mod Stepping
 pub mod TwoOthers
+pub mod Rows

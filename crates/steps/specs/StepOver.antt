@@ -53,7 +53,7 @@ pub record StepOver (t : Trip) (a s b k : ℕ) : Type 0 where
   pub only : (d : ℕ) → Step t a d → sec d ≡ s → d ≡ b
 
 -- the steps from arrival a, over two sections in ascending order: to b at the cost k, and to d at the cost l
-pub record Row (t : Trip) (a b k d l : ℕ) : Type 0 where
+pub record StepsFrom (t : Trip) (a b k d l : ℕ) : Type 0 where
   pub low : ℕ
   pub high : ℕ
   pub first : StepOver t a low b k
@@ -62,6 +62,6 @@ pub record Row (t : Trip) (a b k d l : ℕ) : Type 0 where
   pub all : (n : ℕ) → Step t a n → (sec n ≡ low) ⊎ (sec n ≡ high)
 
 -- they stand at the two places of a
-abbrev pub RowAt : Trip → List ℕ → List ℕ → ℕ → Type 0
-RowAt t next costs a =
-    Row t a (getD next (2 * a) no-distance) (getD costs (2 * a) 0) (getD next (2 * a + 1) no-distance) (getD costs (2 * a + 1) 0)
+abbrev pub Placed : Trip → List ℕ → List ℕ → ℕ → Type 0
+Placed t next costs a =
+    StepsFrom t a (getD next (2 * a) no-distance) (getD costs (2 * a) 0) (getD next (2 * a + 1) no-distance) (getD costs (2 * a + 1) 0)

@@ -1,2 +1,3 @@
 // Every admissible step of a query's train as a plain table, the arrivals at which a walk may end, and the reversals of a walk.
+mod row;
 mod step;
