@@ -3,3 +3,5 @@ pub mod ArrivalOver
 pub mod Stepping
 pub mod TwoOthers
 pub mod Rows
+pub mod Filling
+pub mod Marking

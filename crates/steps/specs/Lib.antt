@@ -3,4 +3,5 @@
 pub mod StepTable
 pub mod Served
 pub mod StepOver
+pub mod Ending
 pub mod Linked

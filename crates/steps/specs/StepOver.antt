@@ -6,7 +6,7 @@ use mathlib.Core.Bool.{Bool, cond}
 use mathlib.Core.List.{List, []}
 use Prim.Native.Nat.{ℕ, _+_, _*_, _≤_, _<_}
 use lib.Dec.{eqb}
-use lib.ListN.{getD}
+use lib.ListN.{getD, set}
 use Rattle.rules.specs.Plan.{plan-of, of-sections, section-count, end-A, arrivals, to-point, sec}
 use Rattle.rules.specs.Query.{query-of}
 use Rattle.rules.specs.Net.{no-distance}
@@ -65,3 +65,7 @@ pub record StepsFrom (t : Trip) (a b k d l : ℕ) : Type 0 where
 abbrev pub Placed : Trip → List ℕ → List ℕ → ℕ → Type 0
 Placed t next costs a =
     StepsFrom t a (getD next (2 * a) no-distance) (getD costs (2 * a) 0) (getD next (2 * a + 1) no-distance) (getD costs (2 * a + 1) 0)
+
+-- two numbers written there
+abbrev pub pair-at : List ℕ → ℕ → ℕ → ℕ → List ℕ
+pair-at l a x y = set (set l (2 * a) x) (2 * a + 1) y

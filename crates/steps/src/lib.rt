@@ -1,3 +1,5 @@
 // Every admissible step of a query's train as a plain table, the arrivals at which a walk may end, and the reversals of a walk.
+pub mod ends;
+mod fill;
 mod row;
 mod step;
