@@ -5,3 +5,4 @@ pub mod TwoOthers
 pub mod Rows
 pub mod Filling
 pub mod Marking
+pub mod Serving

@@ -32,9 +32,9 @@ module _ {ss : List ℕ} {finish goal : ℕ} {ends : List ℕ} {n : ℕ} where
       at b (no z) h = rw (getD-set-other ends a b r 0 z) (m .marks b (omega arith))
 
 -- every arrival is marked
-pub marked-all : {ss ends : List ℕ} {finish enter goal n a : ℕ} → goal ≡ end-at (of-sections ss) finish enter → Marked ss finish goal ends n a → n ≤ a
+pub marked-all : {ss ends : List ℕ} {finish goal n a : ℕ} (enter : ℕ) → goal ≡ end-at (of-sections ss) finish enter → Marked ss finish goal ends n a → n ≤ a
     → (v : ℕ) (ts : List ℕ) (l x e : ℕ) → Ends (trip-of (query-of (plan-of v ss ts) l x e finish enter)) ends
-marked-all {ss} {ends} {finish} {enter} {goal} i m h v ts l x e =
+marked-all {ss} {ends} {finish} {goal} enter i m h v ts l x e =
     record { at = λ b k. go b k (m .marks b (omega (arith, m .end, m .within))) }
   where
     go : (b : ℕ) → b < arrivals (of-sections ss) → EndMark ss finish goal b (getD ends b 0) → EndAt (trip-of (query-of (plan-of v ss ts) l x e finish enter)) ends b

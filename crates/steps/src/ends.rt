@@ -1,6 +1,6 @@
 // The arrivals at which a walk may end.
 ghost use mathlib.Core.List.{List};
-ghost use Prim.Native.Nat.{ℕ, _≤_, _<_};
+ghost use Prim.Native.Nat.{ℕ, _≤_};
 ghost use lib.ListN.{length};
 ghost use Rattle.rules.specs.Plan.{plan-of, of-sections, section-count, arrivals};
 ghost use Rattle.rules.specs.Query.{query-of};
@@ -13,7 +13,6 @@ use plan::read::wide;
 
 // 1 if a walk to the point goal may end at arrival a, else 0.
 fn end_mark(sections: &[u32], finish: u32, goal: u32, a: u32) -> u32
-    requires { ⌜ a < arrivals (of-sections (now sections)) ⌝ }
     ensures { λ r. ⌜ EndMark (now (sections .entry)) finish goal a r ⌝ }
 {
     if a / 2 == finish {

@@ -2,4 +2,5 @@
 pub mod ends;
 mod fill;
 mod row;
+mod serve;
 mod step;
