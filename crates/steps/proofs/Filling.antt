@@ -5,10 +5,10 @@ use mathlib.Core.Logic.{_≢_, _⊎_, inl, inr, ⊎-elim}
 use mathlib.Core.List.{List}
 use Prim.Native.Nat.{ℕ, _+_, _*_, _/_, _≤_, _<_}
 use native.Mathlib.Omega.{arith}
-use native.Mathlib.Decide.{ℕ-discrete, decLt}
+use native.Mathlib.Decide.{ℕ-discrete}
 use lib.ListN.{length, getD, set, length-set}
 use lib.Seq.{getD-set-same, getD-set-other}
-use Rattle.rules.specs.Plan.{of-sections, section-count, arrivals, sec}
+use Rattle.rules.specs.Plan.{of-sections, arrivals, sec}
 use Rattle.rules.specs.Net.{no-distance}
 use Rattle.rules.specs.Trip.{Trip, Step, cost}
 use Rattle.pullout.specs.Tables.{Passes}
@@ -56,12 +56,21 @@ module _ {ss ts : List ℕ} {train start finish : ℕ} {next costs : List ℕ} {
     where
       at : (v e g c : ℕ) → Dec (c ≡ a) → c < a + 1 → Placed (trip ss ts train start finish v e g) (pair-at next a b d) (pair-at costs a k m) c
       at v e g c (yes z) h =
-          rw (z, pair-first next a b d no-distance (omega (arith, w .next-long)), pair-second next a b d no-distance (omega (arith, w .next-long)),
-          pair-first costs a k m 0 (omega (arith, w .costs-long)), pair-second costs a k m 0 (omega (arith, w .costs-long)))
+          rw (
+            z,
+            pair-first next a b d no-distance (omega (arith, w .next-long)),
+            pair-second next a b d no-distance (omega (arith, w .next-long)),
+            pair-first costs a k m 0 (omega (arith, w .costs-long)),
+            pair-second costs a k m 0 (omega (arith, w .costs-long)),
+          )
           (row v e g)
       at v e g c (no z) h =
-          rw (pair-other next a b d no-distance (2 * c) (λ q. z (omega arith)), pair-other next a b d no-distance (2 * c + 1) (λ q. z (omega arith)),
-          pair-other costs a k m 0 (2 * c) (λ q. z (omega arith)), pair-other costs a k m 0 (2 * c + 1) (λ q. z (omega arith)))
+          rw (
+            pair-other next a b d no-distance (2 * c) (λ q. z (omega arith)),
+            pair-other next a b d no-distance (2 * c + 1) (λ q. z (omega arith)),
+            pair-other costs a k m 0 (2 * c) (λ q. z (omega arith)),
+            pair-other costs a k m 0 (2 * c + 1) (λ q. z (omega arith)),
+          )
           (w .placed v e g c (omega arith))
 
 -- a place is one of the two of its arrival

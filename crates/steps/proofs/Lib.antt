@@ -5,4 +5,6 @@ pub mod TwoOthers
 pub mod Rows
 pub mod Filling
 pub mod Marking
+pub mod AnyPoints
 pub mod Serving
+pub mod Reversing

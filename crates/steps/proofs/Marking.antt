@@ -1,6 +1,6 @@
 -- How the arrivals are marked at which a walk may end.
 -- Assumes nothing.
-use mathlib.Core.Path.{_≡_, refl, sym, _∙_}
+use mathlib.Core.Path.{_≡_, sym, _∙_}
 use mathlib.Core.List.{List}
 use Prim.Native.Nat.{ℕ, _+_, _≤_, _<_}
 use native.Mathlib.Omega.{arith}
@@ -9,9 +9,9 @@ use lib.ListN.{length, getD, set, length-set}
 use lib.Seq.{getD-set-same, getD-set-other}
 use Rattle.rules.specs.Plan.{plan-of, of-sections, arrivals, end-at}
 use Rattle.rules.specs.Query.{query-of}
-use Rattle.rules.specs.Trip.{trip-of, Finish}
+use Rattle.rules.specs.Trip.{trip-of}
 use Rattle.steps.specs.StepTable.{EndAt, may-end, goes-on, Ends}
-use Rattle.steps.specs.Ending.{EndsThere, EndMark, ends-there, elsewhere}
+use Rattle.steps.specs.Ending.{EndMark, ends-there, elsewhere}
 
 -- the loop has come to arrival a on its way to n, and has marked those before it
 pub record Marked (ss : List ℕ) (finish goal : ℕ) (ends : List ℕ) (n a : ℕ) : Type 0 where

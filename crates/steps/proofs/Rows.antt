@@ -1,13 +1,13 @@
 -- The two places of an arrival: the steps over the other sections of its point are all its steps.
 -- Assumes nothing.
-use mathlib.Core.Path.{_≡_, refl, sym, _∙_}
-use mathlib.Core.Logic.{_≢_, _⊎_, ⊎-elim}
+use mathlib.Core.Path.{_≡_, sym, _∙_}
+use mathlib.Core.Logic.{_≢_, _⊎_}
 use mathlib.Core.List.{List}
 use Prim.Native.Nat.{ℕ, _+_, _*_, _/_, _<_}
 use native.Mathlib.Omega.{arith}
 use lib.ListN.{getD}
 use Rattle.rules.specs.Plan.{of-sections, section-count, arrivals, to-point, sec}
-use Rattle.plan.specs.Ends.{Joined, AtMostThree, Slots, no-section}
+use Rattle.plan.specs.Ends.{Slots, no-section}
 use Rattle.pullout.specs.Tables.{Passes, Arrived}
 use Rattle.pullout.proofs.Entering.{passed-joined, passed-three, arrived-low}
 use Rattle.pullout.proofs.Asking.{comes}

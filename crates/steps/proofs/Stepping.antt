@@ -4,12 +4,12 @@ use mathlib.Core.Path.{_≡_, refl, sym, _∙_}
 use mathlib.Core.Logic.{_≢_}
 use mathlib.Core.Bool.{Bool, true, false, not, cond, _&&_}
 use mathlib.Core.List.{List}
-use Prim.Native.Nat.{ℕ, _+_, _*_, _/_, _<_}
+use Prim.Native.Nat.{ℕ, _+_, _/_, _<_}
 use native.Mathlib.Omega.{arith}
 use borrow.Author.Tests.{not-true, not-false}
 use lib.Dec.{T, ltb, ltb→lt, lt→ltb}
 use lib.ListN.{getD}
-use Rattle.rules.specs.Plan.{plan-of, of-sections, section-count, len, to-point, sec, forbidden}
+use Rattle.rules.specs.Plan.{plan-of, of-sections, section-count, len, sec, forbidden}
 use Rattle.rules.specs.PullOut.{PullOut, any-section}
 use Rattle.rules.specs.Net.{no-distance}
 use Rattle.rules.specs.Trip.{Trip, Step}
@@ -18,7 +18,7 @@ use Rattle.rules.proofs.Sound.{sound-plan}
 use Rattle.rules.proofs.PullSwap.{Barred}
 use Rattle.pullout.specs.Tables.{forbidden-by, Arrived}
 use Rattle.pullout.proofs.TurnsByPoint.{by-table}
-use Rattle.pullout.proofs.Entering.{passed-joined, arrived-low, section-low}
+use Rattle.pullout.proofs.Entering.{passed-joined, arrived-low}
 use Rattle.pullout.proofs.Asking.{comes}
 use Rattle.steps.specs.StepOver.{trip, may-enter, StepTables, Meets, arrival-over, StepOver}
 use Rattle.steps.proofs.ArrivalOver.{over-section, over-begins, over-only}

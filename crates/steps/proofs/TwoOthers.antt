@@ -3,21 +3,19 @@
 use mathlib.Core.Path.{_≡_, refl, sym, _∙_}
 use mathlib.Core.Logic.{_≢_, _⊎_, inl, inr}
 use mathlib.Core.List.{List}
-use Prim.Native.Nat.{ℕ, _+_, _*_, _≤_, _<_}
+use Prim.Native.Nat.{ℕ, _+_, _*_, _<_}
 use native.Mathlib.Omega.{arith}
 use native.Mathlib.Decide.{ℕ-discrete, decLt}
 use borrow.Author.Tests.{eq-eqb, ne-eqb}
-use lib.Dec.{T}
 use lib.ListN.{getD}
-use Rattle.rules.specs.Plan.{of-sections, section-count, touches, arrivals, to-point, sec}
+use Rattle.rules.specs.Plan.{of-sections, section-count, touches}
 use Rattle.rules.specs.PlanCheck.{degree}
-use Rattle.rules.specs.Net.{no-distance}
 use Rattle.plan.specs.Ends.{Joined, AtMostThree, Slots, no-section}
 use Rattle.plan.proofs.Counting.{Counted, count-reaches}
 use Rattle.plan.proofs.SlotTable.{slot-holds}
 use Rattle.pullout.specs.Tables.{Arrived}
-use Rattle.pullout.proofs.ThreeSlots.{in-slot, ascending}
-use Rattle.steps.specs.StepOver.{other-than, Meets}
+use Rattle.pullout.proofs.ThreeSlots.{ascending}
+use Rattle.steps.specs.StepOver.{other-than}
 
 -- one of the two numbers is not c
 module _ (c x y : ℕ) where

@@ -7,7 +7,7 @@ use mathlib.Core.List.{List}
 use Prim.Native.Nat.{ℕ}
 use lib.Dec.{T}
 use lib.ListN.{getD}
-use Rattle.rules.specs.Plan.{Plan, plan-of, turn-section, turn-point}
+use Rattle.rules.specs.Plan.{Plan, turn-section, turn-point}
 use Rattle.rules.specs.PullOut.{PullOut, NoPullOut, any-section}
 use Rattle.rules.proofs.PullSwap.{Barred}
 

@@ -21,7 +21,7 @@ fn put_pair(list: &mut [u32], a: u32, x: u32, y: u32)
 }
 
 // Writes the two places of every arrival.
-pub fn fill_rows(
+pub(crate) fn fill_rows(
     sections: &[u32],
     turns: &[u32],
     slots: &[u32; 2304],
@@ -39,7 +39,17 @@ pub fn fill_rows(
     let count = 2 * section_count(sections);
     let mut a = 0;
     while a < count {
-        let row = row_at(sections, turns, slots, table, served, length, start, finish, a);
+        let row = row_at(
+            sections,
+            turns,
+            slots,
+            table,
+            served,
+            length,
+            start,
+            finish,
+            a,
+        );
         put_pair(next, a, row.first.next, row.second.next);
         put_pair(cost, a, row.first.cost, row.second.cost);
         a += 1;

@@ -26,7 +26,7 @@ fn other_than(c: u32, x: u32, y: u32) -> u32
 }
 
 // The steps from arrival a.
-pub fn row_at(
+pub(crate) fn row_at(
     sections: &[u32],
     turns: &[u32],
     slots: &[u32; 2304],
@@ -47,7 +47,29 @@ pub fn row_at(
     let z = slot_at(slots, p, 2);
     let low = other_than(c, x, y);
     let high = other_than(c, z, y);
-    let first = step_over(sections, turns, table, served, length, start, finish, a, p, low);
-    let second = step_over(sections, turns, table, served, length, start, finish, a, p, high);
+    let first = step_over(
+        sections,
+        turns,
+        table,
+        served,
+        length,
+        start,
+        finish,
+        a,
+        p,
+        low,
+    );
+    let second = step_over(
+        sections,
+        turns,
+        table,
+        served,
+        length,
+        start,
+        finish,
+        a,
+        p,
+        high,
+    );
     Row { first, second }
 }

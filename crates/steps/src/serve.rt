@@ -30,7 +30,18 @@ fn serves(
 {
     let mut list = [0; 768];
     let cut = cut_for(sections, turns, slots, table, c, p, s, length);
-    let count = first_pull_out(sections, turns, slots, table, &cut, &mut list, length, c, p, s);
+    let count = first_pull_out(
+        sections,
+        turns,
+        slots,
+        table,
+        &cut,
+        &mut list,
+        length,
+        c,
+        p,
+        s,
+    );
     count != 0
 }
 
@@ -71,7 +82,7 @@ fn turn_served(
 }
 
 // One number a point: 1 where its forbidden turn is served.
-pub fn served(
+pub(crate) fn served(
     sections: &[u32],
     turns: &[u32],
     slots: &[u32; 2304],

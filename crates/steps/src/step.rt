@@ -17,7 +17,7 @@ pub struct Step {
 }
 
 // A step may enter section s.
-pub fn may_step(sections: &[u32], start: u32, finish: u32, s: u32) -> bool
+pub(crate) fn may_step(sections: &[u32], start: u32, finish: u32, s: u32) -> bool
     ensures { λ r. ⌜ r ≡ may-enter (now (sections .entry)) start finish s ⌝ }
 {
     if s == finish {
@@ -41,7 +41,7 @@ fn arrival_over(sections: &[u32], s: u32, p: u32) -> u32
 }
 
 // The step from arrival a, which has come to p, over section s.
-pub fn step_over(
+pub(crate) fn step_over(
     sections: &[u32],
     turns: &[u32],
     table: &[u32; 1536],

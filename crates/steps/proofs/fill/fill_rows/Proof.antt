@@ -48,9 +48,11 @@ loop-less c = omega (arith, c .before .before .before .before .before .before .b
 loop-again : tie.Need-loop-again Inv-loop μ-loop
 loop-again c =
     let first = c .before .before .before .before .before .before in
-    let loop = c .before .before .before .before .before .before .before .before .before .before in
-    (first .put-pair .kept .0 ∙ loop .loop .inv .0, c .before .before .put-pair2 .kept .0 ∙ loop .loop .inv .1,
-    rw (first .put-pair .ensures, c .before .before .put-pair2 .ensures) (written-more (loop .loop .inv .2) (c .before .before .before .before .before .before .before .before .before .loop-test .taken) (c .before .before .before .before .before .before .before .before .row-at .ensures)))
+    let loop = c .before .before .before .before .before .before .before .before .before .before in (
+      first .put-pair .kept .0 ∙ loop .loop .inv .0,
+      c .before .before .put-pair2 .kept .0 ∙ loop .loop .inv .1,
+      rw (first .put-pair .ensures, c .before .before .put-pair2 .ensures) (written-more (loop .loop .inv .2) (c .before .before .before .before .before .before .before .before .before .loop-test .taken) (c .before .before .before .before .before .before .before .before .row-at .ensures)),
+    )
 
 same-length : tie.Need-same-length Inv-loop μ-loop
 same-length c = c .before .loop .inv .0

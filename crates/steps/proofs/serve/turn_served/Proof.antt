@@ -1,39 +1,40 @@
+-- `serve::turn_served` meets its contract: the turn is asked for where a step may enter one of its sections.
+-- Assumes nothing.
+use Rattle.steps.specs.StepOver.{may-enter}
+use Rattle.steps.proofs.Serving.{not-asked, is-served, is-unserved, turn-arrived}
 use borrow.Author.Needs.{needs}
 use Rattle.steps.proofs.serve.turn_served.Statement.{statement}
 use Rattle.steps.proofs.serve.turn_served.Tie as tie
-use Rattle.steps.proofs.serve.turn_served.Reads as reads
-use Rattle.steps.proofs.serve.turn_served.Lts as lts
-use Rattle.plan.proofs.read.turn_number.Reads as turn-number-reads
-use Rattle.steps.proofs.serve.may_use.Reads as may-use-reads
-use Rattle.steps.proofs.serve.serves.Reads as serves-reads
 
--- src/serve.rt:62:9
 turn-number-requires : tie.Need-turn-number-requires
 turn-number-requires c κs = search needs
 
--- src/serve.rt:63:9
 turn-number-requires-2 : tie.Need-turn-number-requires-2
 turn-number-requires-2 c κs = search needs
 
--- src/serve.rt:64:9
 may-use-requires : tie.Need-may-use-requires
 may-use-requires c κs = search needs
 
--- src/serve.rt:65:9
 returns : tie.Need-returns
-returns c = ?
+returns c =
+    let start = c .before .before .before .before .before .before in
+    λ v. not-asked (may-enter (start .args .sections .now) (start .args .start) (start .args .finish)) (c .before .before .before .turn-number .ensures) (c .before .before .turn-number2 .ensures) (c .before .may-use .ensures) (c .if1 .taken)
 
--- src/serve.rt:67:8
 serves-requires : tie.Need-serves-requires
-serves-requires c κs = ?
+serves-requires c κs =
+    let start = c .before .before .before .before .before .before in
+    let known = start .pre in
+    (known .0, turn-arrived (known .0 .checked) (start .args .t) (known .2) (c .before .before .before .turn-number .ensures) (known .3), known .1)
 
--- src/serve.rt:68:9
 returns-2 : tie.Need-returns-2
-returns-2 c = ?
+returns-2 c =
+    let start = c .before .before .before .before .before .before .before .before in
+    λ v. is-served (may-enter (start .args .sections .now) (start .args .start) (start .args .finish)) (c .before .before .before .before .before .turn-number .ensures) (c .before .before .before .before .turn-number2 .ensures) (start .pre .3) (c .before .serves .ensures v) (c .if2 .taken)
 
--- src/serve.rt:48:1
 returns-3 : tie.Need-returns-3
-returns-3 c = ?
+returns-3 c =
+    let start = c .before .before .before .before .before .before .before .before in
+    λ v. is-unserved (may-enter (start .args .sections .now) (start .args .start) (start .args .finish)) (c .before .before .before .before .before .turn-number .ensures) (c .before .before .before .before .turn-number2 .ensures) (start .pre .3) (c .before .serves .ensures v) (c .if2 .left)
 
 pub turn-served-spec : {M : Type 1} → statement M
 turn-served-spec =
