@@ -1,0 +1,10 @@
+-- Laws that the functions' proofs cite.
+pub mod ArrivalOver
+pub mod Stepping
+pub mod TwoOthers
+pub mod Rows
+pub mod Filling
+pub mod Marking
+pub mod AnyPoints
+pub mod Serving
+pub mod Reversing

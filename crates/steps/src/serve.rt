@@ -1,0 +1,107 @@
+// Which forbidden turns a pull-out serves.
+ghost use mathlib.Core.Path.{_≡_};
+ghost use mathlib.Core.Bool.{_||_};
+ghost use Prim.Native.Nat.{ℕ, _<_};
+ghost use Rattle.rules.specs.Plan.{plan-of, turn-count, turn-point};
+ghost use Rattle.pullout.specs.Tables.{Tables, Arrived};
+ghost use Rattle.steps.specs.Served.{Serves, TurnServed, Served};
+ghost use Rattle.steps.specs.StepOver.{may-enter};
+use crate::step::may_step;
+use plan::read::turn_count;
+use plan::read::turn_number;
+use plan::read::wide;
+use plan::turn::turn_point;
+use pullout::cut::cut_for;
+use pullout::search::first_pull_out;
+
+// There is a pull-out for (c, p, s).
+fn serves(
+    sections: &[u32],
+    turns: &[u32],
+    slots: &[u32; 2304],
+    table: &[u32; 1536],
+    length: u32,
+    c: u32,
+    p: u32,
+    s: u32,
+) -> bool
+    requires { ⌜ Tables (now sections) (now turns) (now slots) (now table) × Arrived (now sections) c p × (0 < length) ⌝ }
+    ensures { λ r. ⌜ ((v : ℕ) → Serves (plan-of v (now (sections .entry)) (now (turns .entry))) length c p s r) ⌝ }
+{
+    let mut list = [0; 768];
+    let cut = cut_for(sections, turns, slots, table, c, p, s, length);
+    let count = first_pull_out(
+        sections,
+        turns,
+        slots,
+        table,
+        &cut,
+        &mut list,
+        length,
+        c,
+        p,
+        s,
+    );
+    count != 0
+}
+
+// A step may enter one of two sections.
+fn may_use(sections: &[u32], start: u32, finish: u32, x: u32, y: u32) -> bool
+    ensures { λ r. ⌜ r ≡ (may-enter (now (sections .entry)) start finish x || may-enter (now (sections .entry)) start finish y) ⌝ }
+{
+    if may_step(sections, start, finish, x) {
+        return true;
+    }
+    may_step(sections, start, finish, y)
+}
+
+// 1 where a pull-out serves turn t. A turn that no step can use is not asked for.
+fn turn_served(
+    sections: &[u32],
+    turns: &[u32],
+    slots: &[u32; 2304],
+    table: &[u32; 1536],
+    length: u32,
+    start: u32,
+    finish: u32,
+    t: u32,
+    p: u32,
+) -> u32
+    requires { ⌜ Tables (now sections) (now turns) (now slots) (now table) × (0 < length) × (t < turn-count (plan-of 0 (now sections) (now turns))) × (p ≡ turn-point (plan-of 0 (now sections) (now turns)) t) ⌝ }
+    ensures { λ r. ⌜ ((v : ℕ) → TurnServed (plan-of v (now (sections .entry)) (now (turns .entry))) (may-enter (now (sections .entry)) start finish) length t r) ⌝ }
+{
+    let c = turn_number(turns, t, 0);
+    let s = turn_number(turns, t, 1);
+    if !may_use(sections, start, finish, c, s) {
+        return 0;
+    }
+    if serves(sections, turns, slots, table, length, c, p, s) {
+        return 1;
+    }
+    0
+}
+
+// One number a point: 1 where its forbidden turn is served.
+pub(crate) fn served(
+    sections: &[u32],
+    turns: &[u32],
+    slots: &[u32; 2304],
+    table: &[u32; 1536],
+    length: u32,
+    start: u32,
+    finish: u32,
+) -> [u32; 768]
+    requires { ⌜ Tables (now sections) (now turns) (now slots) (now table) × (0 < length) ⌝ }
+    ensures { λ r. ⌜ ((v : ℕ) → Served (plan-of v (now (sections .entry)) (now (turns .entry))) (may-enter (now (sections .entry)) start finish) length r) ⌝ }
+{
+    let count = turn_count(turns);
+    let mut points = [0; 768];
+    let mut t = 0;
+    while t < count {
+        let p = turn_point(sections, turns, t);
+        let answer = turn_served(sections, turns, slots, table, length, start, finish, t, p);
+        points[wide(p)] = answer;
+        t += 1;
+    }
+    points
+}
