@@ -29,7 +29,7 @@ pub enum Look {
 }
 
 // Section e may be entered at p by a train that came over section h and is pulled out for the turn from c to s.
-pub(crate) fn may_enter(
+pub fn may_enter(
     sections: &[u32],
     turns: &[u32],
     table: &[u32; 1536],
@@ -62,7 +62,7 @@ pub(crate) fn may_enter(
 }
 
 // The look at section e by itself.
-fn look_at(
+pub fn look_at(
     sections: &[u32],
     turns: &[u32],
     table: &[u32; 1536],

@@ -1,0 +1,4 @@
+-- Laws that the functions' proofs cite, and those by which a caller reads the answer.
+pub mod Reversing
+pub mod Guessing
+pub mod Following

@@ -1,0 +1,108 @@
+// A guess at a pull-out: depth first and without marks, so that it costs little, and may pass a point twice. Guessing at a point guesses
+// at its sections, guessing at a section guesses at its far point; each section takes one off the budget.
+ghost use Rattle.pullout.specs.Tables.{Passes, TurnTable, Tables, Arrived};
+ghost use Rattle.pullout.specs.Tried.{Over};
+ghost use Rattle.reversal.specs.Guessed.{Takes, Glanced, Guessed};
+use plan::read::LENGTH;
+use plan::read::section_number;
+use plan::section::far_end;
+use plan::section::free_from;
+use plan::section::is_free;
+use plan::slots::slot_at;
+use pullout::look::Look;
+use pullout::look::may_enter;
+
+// A glance at section e at the point p, come there over section h with the length n left: what it is to a guess, and beyond it the
+// far point and what is then left.
+fn glance(
+    sections: &[u32],
+    turns: &[u32],
+    table: &[u32; 1536],
+    c: u32,
+    s: u32,
+    h: u32,
+    p: u32,
+    e: u32,
+    n: u32,
+) -> Look
+    requires { ⌜ Passes (now sections) (now turns) × TurnTable (now sections) (now turns) (now table) × Arrived (now sections) h p ⌝ }
+    ensures { λ r. ⌜ Glanced (now (sections .entry)) (now (turns .entry)) c s n h p e r ⌝ }
+{
+    if !may_enter(sections, turns, table, c, s, h, p, e) {
+        return Look::Shut;
+    }
+    if n <= free_from(sections, e, p) {
+        return Look::Last;
+    }
+    if !is_free(sections, e) {
+        return Look::Shut;
+    }
+    let q = far_end(sections, e, p);
+    let length = section_number(sections, e, LENGTH);
+    Look::On(q, n - length)
+}
+
+// A guess from the point p on, come there over section h with the length n left; k is the budget. Its sections stand in the list
+// from place d on. The answer is 0 where it ends: with a guess, too deep for the list, or with the budget spent. Else there is
+// nothing, and the answer is what is left of the budget.
+pub(crate) fn guess_point(
+    sections: &[u32],
+    turns: &[u32],
+    slots: &[u32; 2304],
+    table: &[u32; 1536],
+    c: u32,
+    s: u32,
+    h: u32,
+    p: u32,
+    n: u32,
+    d: usize,
+    k: u32,
+    list: &mut [u32; 64],
+) -> u32
+    requires { ⌜ Tables (now sections) (now turns) (now slots) (now table) × Arrived (now sections) h p ⌝ }
+    ensures { λ r. ⌜ Guessed (Takes (now (sections .entry)) (now (turns .entry)) c s n h p) k r ⌝ }
+{
+    let x = slot_at(slots, p, 0);
+    let i = guess_section(sections, turns, slots, table, c, s, h, p, x, n, d, k, list);
+    let y = slot_at(slots, p, 1);
+    let j = guess_section(sections, turns, slots, table, c, s, h, p, y, n, d, i, list);
+    let z = slot_at(slots, p, 2);
+    guess_section(sections, turns, slots, table, c, s, h, p, z, n, d, j, list)
+}
+
+// The same over section e, which takes one off the budget. Where that leaves none, or none was left, the guess ends.
+fn guess_section(
+    sections: &[u32],
+    turns: &[u32],
+    slots: &[u32; 2304],
+    table: &[u32; 1536],
+    c: u32,
+    s: u32,
+    h: u32,
+    p: u32,
+    e: u32,
+    n: u32,
+    d: usize,
+    k: u32,
+    list: &mut [u32; 64],
+) -> u32
+    requires { ⌜ Tables (now sections) (now turns) (now slots) (now table) × Arrived (now sections) h p ⌝ }
+    ensures { λ r. ⌜ Guessed (Over (Takes (now (sections .entry)) (now (turns .entry)) c s n h p) e) k r ⌝ }
+{
+    if k < 2 {
+        return 0;
+    }
+    if 63 < d {
+        return 0;
+    }
+    list[d] = e;
+    let i = k - 1;
+    let seen = glance(sections, turns, table, c, s, h, p, e, n);
+    match seen {
+        Look::Shut => i,
+        Look::Last => 0,
+        Look::On(q, m) => {
+            guess_point(sections, turns, slots, table, c, s, e, q, m, d + 1, i, list)
+        }
+    }
+}
