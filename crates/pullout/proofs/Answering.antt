@@ -1,26 +1,25 @@
 -- The answers of the call for one pull-out, one law for each of its ends.
 -- Assumes nothing.
-use mathlib.Core.Path.{_≡_, refl, sym, ap, _∙_}
+use mathlib.Core.Path.{_≡_, refl, sym, _∙_}
 use mathlib.Core.Logic.{_≢_}
 use mathlib.Core.Bool.{Bool, true, false, not}
 use mathlib.Core.List.{List, [], _∷_, _++_}
 use Prim.Native.Nat.{ℕ, _/_, _≤_, _<_}
 use native.Mathlib.Omega.{arith}
-use borrow.Author.Tests.{eq-eqb}
 use lib.Dec.{T}
 use lib.ListN.{length, take, drop}
 use lib.Seq.{take-append-seam}
 use Rattle.rules.specs.Ranges.{between}
 use Rattle.rules.specs.Plan.{plan-of, of-sections, to-point, forbidden}
-use Rattle.rules.specs.Refusals.{Verdict, Check, refused-at, passed, once, verdict}
+use Rattle.rules.specs.Refusals.{Check, refused-at, passed, once, verdict}
 use Rattle.rules.specs.PlanCheck.{plan-checks}
 use Rattle.rules.specs.PullAnswer.{Reversal, reversal-of, turn-asked, pull-checks, not-pulled, PullAnswer, refused, none-found, no-space, pulled}
 use Rattle.rules.proofs.Tests.{and-T, gives-true}
 use Rattle.rules.proofs.Verdicts.{refused-first, passed-first, refused-by, passed-by}
 use Rattle.plan.specs.declared.Checked.{Checked}
 use Rattle.plan.specs.declared.Checked.the-variants.{Passed, Refused}
-use Rattle.plan.specs.Answer.{verdict-of, checked-of}
-use Rattle.plan.proofs.Answers.{verdict-back}
+use Rattle.plan.specs.Answer.{checked-of}
+use Rattle.plan.proofs.Answers.{answer-passes, answer-refuses}
 use Rattle.pullout.specs.Tables.{Arrived}
 use Rattle.pullout.specs.Searched.{Searched, none-there, first-there}
 use Rattle.pullout.proofs.Asking.{met, both-there, comes}
@@ -40,30 +39,15 @@ found-low (first-there qs i pos fit w f) = fit
 abbrev own-checks : Reversal → List Check
 own-checks w = once 7 (not (between 1 (w .train) 20000)) ∷ once 15 (not (turn-asked w)) ∷ []
 
--- an answer that refuses stands for a number that is not 0
-refused-number : (v : Verdict) {n p : ℕ} → Refused n p ≡ checked-of v → v .number ≢ 0
-refused-number v {n} {p} q z =
-    let u : Refused n p ≡ Passed = rw (checked-of, eq-eqb (v .number) 0 z) at q in
-    let y : _≡_ {A = ℕ} 0 1 = cc in
-    omega arith
-
 -- the plan's verdict, by the answer of its check
 module _ (w : Reversal) {r : Checked} (e : r ≡ checked-of (verdict (plan-checks (w .plan)))) where
-  as-verdict : verdict-of r ≡ verdict (plan-checks (w .plan))
-  as-verdict = ap verdict-of e ∙ verdict-back (plan-checks (w .plan)) tt
-
   pub plan-passes : r ≡ Passed → verdict (plan-checks (w .plan)) ≡ passed
-  plan-passes h = sym as-verdict ∙ ap verdict-of h
+  plan-passes = answer-passes (plan-checks (w .plan)) tt e
 
   pub plan-refused : {n p : ℕ} (list : List ℕ) → r ≡ Refused n p → PullAnswer w list (not-pulled (refused-at n p) list)
   plan-refused {n} {p} list h =
-      refused (refused-at n p) (refused-first (plan-checks (w .plan)) (own-checks w) not-0 ∙ same) (rw same at not-0) refl
-    where
-      same : verdict (plan-checks (w .plan)) ≡ refused-at n p
-      same = sym as-verdict ∙ ap verdict-of h
-
-      not-0 : verdict (plan-checks (w .plan)) .number ≢ 0
-      not-0 = refused-number (verdict (plan-checks (w .plan))) (sym h ∙ e)
+      let v = answer-refuses (plan-checks (w .plan)) tt e h in
+      refused (refused-at n p) (refused-first (plan-checks (w .plan)) (own-checks w) (v .1) ∙ v .0) (rw (v .0) at (v .1)) refl
 
 -- where the plan has passed
 module _ (w : Reversal) (list : List ℕ) (ok : verdict (plan-checks (w .plan)) ≡ passed) where

@@ -4,7 +4,7 @@ use mathlib.Core.Path.{_≡_, refl, sym, ap, _∙_}
 use mathlib.Core.Logic.{_≢_}
 use mathlib.Core.Bool.{Bool, true, not}
 use mathlib.Core.List.{List, [], _∷_, _++_, append-nil}
-use Prim.Native.Nat.{ℕ, zero, suc, _+_, _≤_, _<_}
+use Prim.Native.Nat.{ℕ, _+_, _≤_, _<_}
 use native.Mathlib.Omega.{arith}
 use lib.Dec.{eqb, ltb}
 use lib.ListN.{length, getD, take, drop}
@@ -21,13 +21,9 @@ use Rattle.rules.proofs.Verdicts.{refuses-once, passes-once, passes, accepts, p
 use Rattle.rules.proofs.Walks.{remaining-unique}
 use Rattle.rules.proofs.Sound.{sound, label-length}
 use Rattle.rules.proofs.Trips.{start-inside, query-few-steps, total-below}
+use Rattle.distance.proofs.Sums.{any-default}
 use Rattle.search.specs.Asked.{Accepted}
 use Rattle.search.specs.Solved.{Solved}
-
-pub any-default : (l : List ℕ) (i d e : ℕ) → i < length l → getD l i d ≡ getD l i e
-any-default [] i d e h = absurd (omega arith)
-any-default (x ∷ xs) zero d e h = refl
-any-default (x ∷ xs) (suc i) d e h = any-default xs i d e (omega arith)
 
 -- the plan of a query that is accepted passes
 pub plan-accepted : (q : Query) (n : ℕ) → Accepted q n → verdict (plan-checks (q .plan)) ≡ passed

@@ -17,7 +17,7 @@ use Rattle.rules.proofs.Trips.{sound-trip}
 use Rattle.distance.specs.Table.{table-net, Table}
 use Rattle.distance.specs.Answer.{Labels, Written}
 use Rattle.search.specs.Solved.{Listing, Known, Chosen, SolvedOver, Solved}
-use Rattle.search.proofs.Answering.{any-default}
+use Rattle.distance.proofs.Sums.{any-default}
 use Rattle.search.proofs.StepNet.{table-to-trip, trip-to-table, trip-table}
 
 module _ {N : Net} {n : ℕ} {entry labels : List ℕ} (L : Labels N n entry labels) (long : n ≤ length entry) where

@@ -1,6 +1,5 @@
 // The search.
 mod solve;
-mod stub;
 mod write;
 
 ghost use mathlib.Core.Path.{_≡_};
@@ -51,8 +50,26 @@ fn find_route(
     let table = turn_table(sections, turns);
     let mut known = [4294967295; 2048];
     let mut walk = [0; 2048];
-    let steps = solve(sections, turns, &slots, &table, asked, &mut known, &mut walk);
-    write_answer(sections, turns, &table, asked, &known, &walk, steps, route, labels)
+    let steps = solve(
+        sections,
+        turns,
+        &slots,
+        &table,
+        asked,
+        &mut known,
+        &mut walk,
+    );
+    write_answer(
+        sections,
+        turns,
+        &table,
+        asked,
+        &known,
+        &walk,
+        steps,
+        route,
+        labels,
+    )
 }
 
 // Refusals 7 to 11, where the plan has passed, and then the others.

@@ -4,13 +4,14 @@ ghost use lib.ListN.{length};
 ghost use Rattle.rules.proofs.Sound.{Sound};
 ghost use Rattle.pullout.specs.Tables.{Tables};
 ghost use Rattle.distance.specs.Table.{table-net, Table};
+ghost use Rattle.distance.specs.Labels.{Blank};
 ghost use Rattle.search.specs.Asked.{query-asked};
 ghost use Rattle.search.specs.Solved.{Listing, SolvedOver, Solved};
 use crate::Asked;
-use crate::stub::fill_ends;
-use crate::stub::fill_steps;
-use crate::stub::first_walk;
-use crate::stub::remaining;
+use distance::first_walk;
+use distance::remaining;
+use steps::ends::fill_ends;
+use steps::fill_steps;
 use train::place::start_arrival;
 use train::room::finish_room;
 
@@ -25,7 +26,7 @@ fn solve_over(
     known: &mut [u32],
     walk: &mut [u32],
 ) -> usize
-    requires { ⌜ Table (now next) (now cost) (now ends) room count × (from < count) × (count ≤ length (now known)) × (count ≤ length (now walk)) ⌝ }
+    requires { ⌜ Table (now next) (now cost) (now ends) room count × (from < count) × (count ≤ length (now known)) × (count ≤ length (now walk)) × Blank count (now known) ⌝ }
     ensures { λ r. ⌜ SolvedOver (table-net (now (next .entry)) (now (cost .entry)) (now (ends .entry)) room count) count from (now (known .exit)) (now (walk .exit)) r ⌝ }
 {
     remaining(next, cost, ends, room, count, known);
@@ -49,7 +50,17 @@ fn list_steps(
     requires { ⌜ Sound (query-asked asked (now sections) (now turns)) × Tables (now sections) (now turns) (now slots) (now table) × (4096 ≤ length (now next)) × (4096 ≤ length (now cost)) × (2048 ≤ length (now ends)) ⌝ }
     ensures { λ _. ⌜ Listing (query-asked asked (now (sections .entry)) (now (turns .entry))) (now (next .exit)) (now (cost .exit)) (now (ends .exit)) ⌝ }
 {
-    fill_steps(sections, turns, slots, table, asked.length, asked.start, asked.finish, next, cost);
+    fill_steps(
+        sections,
+        turns,
+        slots,
+        table,
+        asked.length,
+        asked.start,
+        asked.finish,
+        next,
+        cost,
+    );
     fill_ends(sections, asked.finish, asked.enter, ends);
 }
 
@@ -63,14 +74,29 @@ pub fn solve(
     known: &mut [u32],
     walk: &mut [u32],
 ) -> usize
-    requires { ⌜ Sound (query-asked asked (now sections) (now turns)) × Tables (now sections) (now turns) (now slots) (now table) × (2048 ≤ length (now known)) × (2048 ≤ length (now walk)) ⌝ }
+    requires { ⌜ Sound (query-asked asked (now sections) (now turns)) × Tables (now sections) (now turns) (now slots) (now table) × (2048 ≤ length (now known)) × (2048 ≤ length (now walk)) × Blank 2048 (now known) ⌝ }
     ensures { λ r. ⌜ Solved (query-asked asked (now (sections .entry)) (now (turns .entry))) (now (known .exit)) (now (walk .exit)) r ⌝ }
 {
     let mut next = [4294967295; 4096];
     let mut cost = [0; 4096];
     let mut ends = [0; 2048];
-    list_steps(sections, turns, slots, table, asked, &mut next, &mut cost, &mut ends);
-    let room = finish_room(sections, asked.length, asked.start, asked.finish, asked.enter);
+    list_steps(
+        sections,
+        turns,
+        slots,
+        table,
+        asked,
+        &mut next,
+        &mut cost,
+        &mut ends,
+    );
+    let room = finish_room(
+        sections,
+        asked.length,
+        asked.start,
+        asked.finish,
+        asked.enter,
+    );
     let count = 2 * (sections.len() / 6);
     let from = start_arrival(asked.start, asked.leave);
     solve_over(&next, &cost, &ends, room, count, from, known, walk)

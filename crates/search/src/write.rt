@@ -11,9 +11,9 @@ ghost use Rattle.search.specs.Solved.{Solved};
 ghost use Rattle.search.specs.Answer.{result-of};
 use crate::Asked;
 use crate::Routed;
-use crate::stub::count_reversals;
 use plan::read::wide;
 use pullout::copy::copy_front;
+use steps::reversals::count_reversals;
 use train::place::first_distance;
 use train::place::start_arrival;
 
@@ -65,5 +65,15 @@ pub fn write_answer(
         copy_front(known, labels, count);
         return Routed::Refused(12, 0);
     }
-    write_walk(sections, turns, table, asked, known, walk, steps, route, labels)
+    write_walk(
+        sections,
+        turns,
+        table,
+        asked,
+        known,
+        walk,
+        steps,
+        route,
+        labels,
+    )
 }

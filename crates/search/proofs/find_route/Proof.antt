@@ -1,3 +1,13 @@
+-- `find_route` meets its contract: the tables are made once, the query is solved and the answer written.
+-- Assumes nothing.
+use native.Mathlib.Omega.{arith}
+use lib.ListN.{length}
+use Rattle.rules.specs.Plan.{plan-of}
+use Rattle.rules.proofs.Sound.{sound}
+use Rattle.plan.proofs.Known.{plan-joined, plan-three, plan-turned}
+use Rattle.distance.proofs.Fronts.{blank-new}
+use Rattle.search.specs.Asked.{query-asked}
+use Rattle.search.proofs.Answering.{plan-accepted}
 use borrow.Author.Needs.{needs}
 use Rattle.search.proofs.find_route.Statement.{statement}
 use Rattle.search.proofs.find_route.Tie as tie
@@ -10,11 +20,15 @@ use Rattle.search.proofs.write.write_answer.Reads as write-answer-reads
 
 -- src/lib.rt:50:17
 index-requires : tie.Need-index-requires
-index-requires c κs = ?
+index-requires c κs =
+    let s = c .before .before .before .before in
+    (plan-joined (plan-of (s .args .asked .points) (s .args .sections .now) (s .args .turns .now)) (plan-accepted (query-asked (s .args .asked) (s .args .sections .now) (s .args .turns .now)) (length (s .args .labels .now)) (s .pre)), plan-three (plan-of (s .args .asked .points) (s .args .sections .now) (s .args .turns .now)) (plan-accepted (query-asked (s .args .asked) (s .args .sections .now) (s .args .turns .now)) (length (s .args .labels .now)) (s .pre)))
 
 -- src/lib.rt:51:17
 turn-table-requires : tie.Need-turn-table-requires
-turn-table-requires c κs = ?
+turn-table-requires c κs =
+    let s = c .before .before .before .before .before in
+    plan-turned (plan-of (s .args .asked .points) (s .args .sections .now) (s .args .turns .now)) (plan-accepted (query-asked (s .args .asked) (s .args .sections .now) (s .args .turns .now)) (length (s .args .labels .now)) (s .pre))
 
 -- src/lib.rt:54:63
 slice-aggregate-solve : tie.Need-slice-aggregate-solve
@@ -26,7 +40,10 @@ slice-aggregate-solve-2 c = search needs
 
 -- src/lib.rt:54:9
 solve-requires : tie.Need-solve-requires
-solve-requires c κs = ?
+solve-requires c κs =
+    let s = c .before .before .before .before .before .before .before .before .before .before in
+    let sections = s .args .sections .now in
+    (sound (query-asked (s .args .asked) (s .args .sections .now) (s .args .turns .now)) (length (s .args .labels .now)) (s .pre), record { checked = record { points = s .args .asked .points; passes = (plan-accepted (query-asked (s .args .asked) (s .args .sections .now) (s .args .turns .now)) (length (s .args .labels .now)) (s .pre)) }; slotted = c .before .before .before .before .before .index .ensures; turned = c .before .before .before .before .turn-table .ensures }, search needs, search needs, blank-new 2048 2048 (omega arith))
 
 -- src/lib.rt:55:50
 slice-aggregate-write-answer : tie.Need-slice-aggregate-write-answer

@@ -1,3 +1,10 @@
+-- `search` meets its contract: rows 1 to 6 are the plan check's, and then come the others.
+-- Assumes nothing.
+use Rattle.rules.specs.Plan.{plan-of}
+use Rattle.rules.specs.PlanCheck.{plan-checks}
+use Rattle.rules.specs.Query.{query-of}
+use Rattle.plan.proofs.Answers.{answer-passes}
+use Rattle.search.proofs.Refusing.{plan-refused}
 use borrow.Author.Needs.{needs}
 use Rattle.search.proofs.search.Statement.{statement}
 use Rattle.search.proofs.search.Tie as tie
@@ -20,11 +27,15 @@ enum-told c = search needs
 
 -- src/lib.rt:115:28
 search-plan-requires : tie.Need-search-plan-requires
-search-plan-requires c κs = ?
+search-plan-requires c κs =
+    let s = c .before .before .before .before .before .before .before .before .before in
+    answer-passes (plan-checks (plan-of (s .args .points) (s .args .sections .now) (s .args .turns .now))) tt (c .before .before .before .before .check-plan .ensures) (c .before .before .enum-told .given .1)
 
 -- src/lib.rt:90:1
 returns : tie.Need-returns
-returns c = ?
+returns c =
+    let s = c .before .before .before .before .before .before .before .before in
+    plan-refused (query-of (plan-of (s .args .points) (s .args .sections .now) (s .args .turns .now)) (s .args .length) (s .args .start) (s .args .leave) (s .args .finish) (s .args .enter)) (s .args .route .now) (s .args .labels .now) (c .before .before .before .check-plan .ensures) (c .before .checked .given .1)
 
 -- src/lib.rt:90:1
 same-length : tie.Need-same-length

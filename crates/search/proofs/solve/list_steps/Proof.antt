@@ -5,8 +5,8 @@ use Rattle.search.proofs.solve.list_steps.Statement.{statement}
 use Rattle.search.proofs.solve.list_steps.Tie as tie
 use Rattle.search.proofs.solve.list_steps.Reads as reads
 use Rattle.search.proofs.solve.list_steps.Lts as lts
-use Rattle.search.proofs.stub.fill_ends.Reads as fill-ends-reads
-use Rattle.search.proofs.stub.fill_steps.Reads as fill-steps-reads
+use Rattle.steps.proofs.ends.fill_ends.Reads as fill-ends-reads
+use Rattle.steps.proofs.fill_steps.Reads as fill-steps-reads
 
 -- src/solve.rt:52:5
 fill-steps-requires : tie.Need-fill-steps-requires

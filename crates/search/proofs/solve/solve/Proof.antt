@@ -58,7 +58,7 @@ solve-over-requires : tie.Need-solve-over-requires
 solve-over-requires c κs =
     let s = c .before .before .before .before .before .before .before .before .before .before .before .before .before .before .before .before .before .before in
     let fewer = s .pre .0 .plan .few-sections in
-    (rw (c .before .before .before .before .before .before .finish-room .ensures) (listing-table (s .pre .0) (c .before .before .before .before .before .before .before .before .before .before .list-steps .ensures)), rw (c .before .before .before .before .before .start-arrival .ensures) (start-inside (s .pre .0)), omega (arith, s .pre .2), omega (arith, s .pre .3))
+    (rw (c .before .before .before .before .before .before .finish-room .ensures) (listing-table (s .pre .0) (c .before .before .before .before .before .before .before .before .before .before .list-steps .ensures)), rw (c .before .before .before .before .before .start-arrival .ensures) (start-inside (s .pre .0)), omega (arith, s .pre .2), omega (arith, s .pre .3), record { none = λ a l. s .pre .4 .none a (omega arith) })
 
 -- src/solve.rt:57:1
 same-length : tie.Need-same-length

@@ -7,8 +7,8 @@ use Rattle.search.proofs.solve.solve_over.Statement.{statement}
 use Rattle.search.proofs.solve.solve_over.Tie as tie
 use Rattle.search.proofs.solve.solve_over.Reads as reads
 use Rattle.search.proofs.solve.solve_over.Lts as lts
-use Rattle.search.proofs.stub.first_walk.Reads as first-walk-reads
-use Rattle.search.proofs.stub.remaining.Reads as remaining-reads
+use Rattle.distance.proofs.first_walk.Reads as first-walk-reads
+use Rattle.distance.proofs.remaining.Reads as remaining-reads
 
 -- src/solve.rt:31:5
 remaining-requires : tie.Need-remaining-requires
@@ -37,7 +37,7 @@ first-walk-requires : tie.Need-first-walk-requires
 first-walk-requires c κs =
     let s = c .before .before .before .before .before .before .before .before .before .before .before .before .before in
     let labels = c .before .before .before .before .before .before .remaining .ensures in
-    (s .pre .0, labels .exact, omega (arith, s .pre .2, labels .long), s .pre .1, label-number labels (s .pre .2) (s .pre .1) (c .before .before .if1 .left) (c .before .before .before .slice-known4 .given (s .args .from)), s .pre .3)
+    (s .pre .0, labels .exact, omega (arith, s .pre .2, labels .long), s .pre .1, label-number labels (s .pre .2) (s .pre .1) (c .before .before .if1 .left) (omega (arith, c .before .before .before .slice-known4 .given (s .args .from))), s .pre .3)
 
 -- src/solve.rt:18:1
 same-length-2 : tie.Need-same-length-2

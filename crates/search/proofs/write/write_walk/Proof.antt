@@ -2,6 +2,7 @@
 -- Assumes nothing.
 use native.Mathlib.Omega.{arith}
 use lib.ListN.{length}
+use Rattle.steps.proofs.Reversing.{walk-linked}
 use Rattle.search.specs.Asked.{query-asked}
 use Rattle.search.proofs.Answering.{plan-accepted, start-there, start-low, labels-there, few, walk-held, walk-walked, total-fits, no-room, handed-out}
 use borrow.Author.Needs.{needs}
@@ -10,7 +11,7 @@ use Rattle.search.proofs.write.write_walk.Tie as tie
 use Rattle.search.proofs.write.write_walk.Reads as reads
 use Rattle.search.proofs.write.write_walk.Lts as lts
 use Rattle.pullout.proofs.copy.copy_front.Reads as copy-front-reads
-use Rattle.search.proofs.stub.count_reversals.Reads as count-reversals-reads
+use Rattle.steps.proofs.reversals.count_reversals.Reads as count-reversals-reads
 use Rattle.train.proofs.place.first_distance.Reads as first-distance-reads
 use Rattle.train.proofs.place.start_arrival.Reads as start-arrival-reads
 
@@ -54,7 +55,7 @@ cast-count-reversals c =
 count-reversals-requires : tie.Need-count-reversals-requires
 count-reversals-requires c κs =
     let s = c .before .before .before .before .before .before .before .before .before .before in
-    (record { points = s .args .asked .points; passes = plan-accepted (query-asked (s .args .asked) (s .args .sections .now) (s .args .turns .now)) (length (s .args .labels .now)) (s .pre .0) }, s .pre .1, walk-held (query-asked (s .args .asked) (s .args .sections .now) (s .args .turns .now)) (s .args .labels .now) (s .pre .0) (s .pre .2) (s .pre .3), omega (arith, few (query-asked (s .args .asked) (s .args .sections .now) (s .args .turns .now)) (s .args .labels .now) (s .pre .0) (s .pre .2) (s .pre .3)))
+    (record { points = s .args .asked .points; passes = plan-accepted (query-asked (s .args .asked) (s .args .sections .now) (s .args .turns .now)) (length (s .args .labels .now)) (s .pre .0) }, s .pre .1, walk-held (query-asked (s .args .asked) (s .args .sections .now) (s .args .turns .now)) (s .args .labels .now) (s .pre .0) (s .pre .2) (s .pre .3), omega (arith, few (query-asked (s .args .asked) (s .args .sections .now) (s .args .turns .now)) (s .args .labels .now) (s .pre .0) (s .pre .2) (s .pre .3)), rw (c .before .before .start-arrival .ensures) (walk-linked (walk-walked (query-asked (s .args .asked) (s .args .sections .now) (s .args .turns .now)) (s .args .labels .now) (s .pre .0) (s .pre .2) (s .pre .3))))
 
 -- src/write.rt:41:5
 copy-front-requires : tie.Need-copy-front-requires
@@ -89,7 +90,7 @@ returns-2 c =
     let from = c .before .before .before .before .before .before .before .before .before .before .before .start-arrival .ensures in
     rw (c .before .before .copy-front2 .ensures, c .before .before .before .before .before .before .copy-front .ensures, c .before .before .before .before .before .before .before .before .before .before .first-distance .ensures, from)
     (handed-out (query-asked (s .args .asked) (s .args .sections .now) (s .args .turns .now)) (s .args .labels .now) (s .pre .0) (s .pre .2) (s .pre .3) (s .args .route .now) (c .before .before .before .before .before .before .before .before .count-reversals .result) (omega (arith, c .before .before .before .before .before .before .before .before .before .before .before .before .if1 .left))
-    (rw from at (c .before .before .before .before .before .before .before .before .count-reversals .ensures (s .args .asked .points) (s .args .asked .length) (s .args .asked .start) (s .args .asked .leave) (s .args .asked .finish) (s .args .asked .enter) (rw from (walk-walked (query-asked (s .args .asked) (s .args .sections .now) (s .args .turns .now)) (s .args .labels .now) (s .pre .0) (s .pre .2) (s .pre .3))))))
+    (rw from at (c .before .before .before .before .before .before .before .before .count-reversals .ensures (s .args .asked .points) (s .args .asked .length) (s .args .asked .start) (s .args .asked .leave) (s .args .asked .finish) (s .args .asked .enter))))
 
 pub write-walk-spec : {M : Type 1} → statement M
 write-walk-spec =
