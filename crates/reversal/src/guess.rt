@@ -70,7 +70,7 @@ pub(crate) fn guess_point(
     guess_section(sections, turns, slots, table, c, s, h, p, z, n, d, j, list)
 }
 
-// The same over section e, which takes one off the budget.
+// The same over section e, which takes one off the budget. With none left the guess has ended, and the list stays as it is.
 fn guess_section(
     sections: &[u32],
     turns: &[u32],
