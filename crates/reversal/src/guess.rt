@@ -70,7 +70,7 @@ pub(crate) fn guess_point(
     guess_section(sections, turns, slots, table, c, s, h, p, z, n, d, j, list)
 }
 
-// The same over section e, which takes one off the budget. Where that leaves none, or none was left, the guess ends.
+// The same over section e, which takes one off the budget. With none left the guess has ended, and the list stays as it is.
 fn guess_section(
     sections: &[u32],
     turns: &[u32],
@@ -89,7 +89,7 @@ fn guess_section(
     requires { ⌜ Tables (now sections) (now turns) (now slots) (now table) × Arrived (now sections) h p ⌝ }
     ensures { λ r. ⌜ Guessed (Over (Takes (now (sections .entry)) (now (turns .entry)) c s n h p) e) k r ⌝ }
 {
-    if k < 2 {
+    if k == 0 {
         return 0;
     }
     if 63 < d {

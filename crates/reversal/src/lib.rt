@@ -15,7 +15,7 @@ use pullout::search::first_pull_out;
 // How many sections a guess may try.
 const BUDGET: u32 = 256;
 
-// The search for the first pull-out tells.
+// The search for the first pull-out tells. Its tables are large, so they stand here and not in the way of a guess.
 fn search_reversal(
     sections: &[u32],
     turns: &[u32],
