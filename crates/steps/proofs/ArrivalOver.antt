@@ -4,25 +4,15 @@ use mathlib.Core.Path.{_≡_, refl, sym, _∙_}
 use mathlib.Core.Logic.{_≢_, ⊎-elim}
 use mathlib.Core.Bool.{Bool, true, false, cond}
 use mathlib.Core.List.{List}
-use Prim.Native.Nat.{ℕ, _+_, _-_, _*_, _/_, _%_, _<_}
+use Prim.Native.Nat.{ℕ, _+_, _-_, _*_, _/_, _%_}
 use native.Mathlib.Omega.{arith}
 use lib.Dec.{T, eqb}
-use Rattle.rules.specs.Plan.{of-sections, end-A, end-B, end-at, touches, arrivals, from-point, sec}
+use Rattle.rules.specs.Plan.{of-sections, end-A, end-B, end-at, touches, from-point, sec}
 use Rattle.rules.proofs.Branches.{equal, unequal, first-one, second-one}
 use Rattle.rules.proofs.Tests.{says-true, says-false, tests}
 use Rattle.rules.proofs.Sound.{at-both-ends}
-use Rattle.plan.proofs.Touching.{touch-A, touch-B, touch-cases}
-use Rattle.pullout.specs.Tables.{Arrived}
+use Rattle.plan.proofs.Touching.{touch-cases}
 use Rattle.steps.specs.StepOver.{arrival-over}
-
--- the section of an arrival has for an end the point where a step to this arrival begins
-pub begins-there : (ss : List ℕ) (b : ℕ) → b < arrivals (of-sections ss) → Arrived ss (b / 2) (from-point (of-sections ss) b)
-begins-there ss b l =
-    record {
-      inside = omega arith;
-      touch = at-both-ends (λ e. T (touches (of-sections ss) (b / 2) (end-at (of-sections ss) (b / 2) e)))
-          (touch-A ss (b / 2) (end-A (of-sections ss) (b / 2)) refl) (touch-B ss (b / 2) (end-B (of-sections ss) (b / 2)) refl) (1 - b % 2) (omega arith);
-    }
 
 module _ (ss : List ℕ) (s p : ℕ) where
   -- as the code makes it

@@ -13,6 +13,7 @@ use Rattle.rules.specs.Net.{no-distance}
 use Rattle.rules.specs.Trip.{Trip, Step, cost}
 use Rattle.pullout.specs.Tables.{Passes}
 use Rattle.pullout.proofs.Entering.{passed-joined}
+use Rattle.steps.specs.declared.step.Train.{Train}
 use Rattle.steps.specs.StepTable.{Entry, Place, StepTable}
 use Rattle.steps.specs.StepOver.{trip, StepsFrom, Placed, pair-at}
 
@@ -29,22 +30,22 @@ module _ (l : List ℕ) (a x y : ℕ) (d : ℕ) where
   pair-second h = getD-set-same (set l (2 * a) x) (2 * a + 1) y d (rw length-set h)
 
 -- the loop has come to arrival a on its way to n, and has written the places of the arrivals before it
-pub record Written (ss ts : List ℕ) (train start finish : ℕ) (next costs : List ℕ) (n a : ℕ) : Type 0 where
+pub record Written (ss ts : List ℕ) (train : Train) (next costs : List ℕ) (n a : ℕ) : Type 0 where
   pub end : n ≡ arrivals (of-sections ss)
   pub within : a ≤ n
   pub next-long : 2 * n ≤ length next
   pub costs-long : 2 * n ≤ length costs
-  pub placed : (v e g b : ℕ) → b < a → Placed (trip ss ts train start finish v e g) next costs b
+  pub placed : (v e g b : ℕ) → b < a → Placed (trip ss ts train v e g) next costs b
 
-module _ {ss ts : List ℕ} {train start finish : ℕ} {next costs : List ℕ} {n : ℕ} where
+module _ {ss ts : List ℕ} {train : Train} {next costs : List ℕ} {n : ℕ} where
   pub written-none : n ≡ arrivals (of-sections ss) → 2 * arrivals (of-sections ss) ≤ length next → 2 * arrivals (of-sections ss) ≤ length costs
-      → Written ss ts train start finish next costs n 0
+      → Written ss ts train next costs n 0
   written-none i h k =
       record { end = i; within = omega arith; next-long = omega arith; costs-long = omega arith; placed = λ v e g b l. absurd (omega arith) }
 
-  pub written-more : {a b k d m : ℕ} → Written ss ts train start finish next costs n a → a < n
-      → ((v e g : ℕ) → StepsFrom (trip ss ts train start finish v e g) a b k d m)
-      → Written ss ts train start finish (pair-at next a b d) (pair-at costs a k m) n (a + 1)
+  pub written-more : {a b k d m : ℕ} → Written ss ts train next costs n a → a < n
+      → ((v e g : ℕ) → StepsFrom (trip ss ts train v e g) a b k d m)
+      → Written ss ts train (pair-at next a b d) (pair-at costs a k m) n (a + 1)
   written-more {a} {b} {k} {d} {m} w l row =
       record {
         end = w .end;
@@ -54,7 +55,7 @@ module _ {ss ts : List ℕ} {train start finish : ℕ} {next costs : List ℕ} {
         placed = λ v e g c h. at v e g c (ℕ-discrete c a) h;
       }
     where
-      at : (v e g c : ℕ) → Dec (c ≡ a) → c < a + 1 → Placed (trip ss ts train start finish v e g) (pair-at next a b d) (pair-at costs a k m) c
+      at : (v e g c : ℕ) → Dec (c ≡ a) → c < a + 1 → Placed (trip ss ts train v e g) (pair-at next a b d) (pair-at costs a k m) c
       at v e g c (yes z) h =
           rw (
             z,
@@ -113,7 +114,7 @@ module _ (t : Trip) (next costs : List ℕ) (few : arrivals (t .plan) ≤ 2048) 
   pub step-table : StepTable t next costs
   step-table = record { each = each-entry; every = every-step; ascending = rising }
 
-pub written-all : {ss ts : List ℕ} {train start finish : ℕ} {next costs : List ℕ} {n a : ℕ} → Passes ss ts → Written ss ts train start finish next costs n a → n ≤ a
-    → (v e g : ℕ) → StepTable (trip ss ts train start finish v e g) next costs
-written-all {ss} {ts} {train} {start} {finish} {next} {costs} ok w l v e g =
-    step-table (trip ss ts train start finish v e g) next costs (omega (arith, passed-joined ok .few)) (λ b h. w .placed v e g b (omega (arith, w .end, w .within)))
+pub written-all : {ss ts : List ℕ} {train : Train} {next costs : List ℕ} {n a : ℕ} → Passes ss ts → Written ss ts train next costs n a → n ≤ a
+    → (v e g : ℕ) → StepTable (trip ss ts train v e g) next costs
+written-all {ss} {ts} {train} {next} {costs} ok w l v e g =
+    step-table (trip ss ts train v e g) next costs (omega (arith, passed-joined ok .few)) (λ b h. w .placed v e g b (omega (arith, w .end, w .within)))

@@ -1,4 +1,5 @@
 -- Laws that the functions' proofs cite.
+pub mod Arrivals
 pub mod ArrivalOver
 pub mod Stepping
 pub mod TwoOthers

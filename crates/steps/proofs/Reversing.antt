@@ -10,15 +10,13 @@ use lib.ListN.{length, getD, take, drop, drop-of-length-le}
 use lib.Seq.{length-take-le, drop-cons, getD-take}
 use Rattle.rules.specs.Plan.{plan-of, of-sections, to-point, forbidden}
 use Rattle.rules.specs.Net.{Walk, here, onward}
-use Rattle.rules.specs.Trip.{Trip, Step, reversals, net-of}
+use Rattle.rules.specs.Query.{query-of}
+use Rattle.rules.specs.Trip.{Trip, Step, reversals, net-of, trip-of}
 use Rattle.rules.proofs.Branches.{first-one, second-one}
-use Rattle.pullout.specs.Tables.{Passes, TurnTable, forbidden-by, Arrived}
+use Rattle.pullout.specs.Tables.{Passes, TurnTable, forbidden-by}
 use Rattle.pullout.proofs.TurnsByPoint.{by-table}
-use Rattle.pullout.proofs.Entering.{arrived-low}
-use Rattle.pullout.proofs.Asking.{comes}
-use Rattle.steps.specs.StepOver.{trip}
 use Rattle.steps.specs.Linked.{Link, Linked, linked, linked-end}
-use Rattle.steps.proofs.ArrivalOver.{begins-there}
+use Rattle.steps.proofs.Arrivals.{comes-there, point-low, begins-there}
 
 -- a step links two arrivals, and a walk is linked
 pub step-link : {t : Trip} {a b : ℕ} → Step t a b → Link (t .plan .sections) a b
@@ -30,14 +28,11 @@ walk-linked (onward s w) = linked (step-link s) (walk-linked w)
 
 -- one step: the table says whether it is a reversal
 module _ {ss ts table : List ℕ} {a b p : ℕ} (ok : Passes ss ts) (made : TurnTable ss ts table) (k : Link ss a b) (i : p ≡ to-point (of-sections ss) a) where
-  came : Arrived ss (a / 2) p
-  came = rw i (comes ss a (omega (arith, k .from)))
-
-  pub point-low : p < 768
-  point-low = arrived-low ok came
+  pub p-low : p < 768
+  p-low = point-low a (k .from) i ok
 
   by-turn : forbidden-by table p (a / 2) (b / 2) ≡ forbidden (plan-of 0 ss ts) (a / 2) (b / 2)
-  by-turn = by-table ok made point-low came (rw (k .joined ∙ sym i) at (begins-there ss b (k .to))) (λ e. k .other (sym e))
+  by-turn = by-table ok made p-low (comes-there a (k .from) i) (rw (k .joined ∙ sym i) at (begins-there ss b (k .to))) (λ e. k .other (sym e))
 
   module _ {r : Bool} (e : r ≡ forbidden-by table p (a / 2) (b / 2)) where
     pub reversed : r ≡ true → _≡_ {A = ℕ} 1 (cond (forbidden (plan-of 0 ss ts) (a / 2) (b / 2)) 1 0)
@@ -51,7 +46,7 @@ pub record Tallied (ss ts : List ℕ) (from : ℕ) (walk : List ℕ) (count foun
   pub within : i ≤ count
   pub few : found ≤ i
   pub rest : Linked ss a (drop i (take count walk))
-  pub sum : (v l x e y g : ℕ) → found + reversals (trip ss ts l x y v e g) a (drop i (take count walk)) ≡ reversals (trip ss ts l x y v e g) from (take count walk)
+  pub sum : (v l x e y g : ℕ) → found + reversals (trip-of (query-of (plan-of v ss ts) l x e y g)) a (drop i (take count walk)) ≡ reversals (trip-of (query-of (plan-of v ss ts) l x e y g)) from (take count walk)
 
 pub tallied-none : {ss ts : List ℕ} {from : ℕ} {walk : List ℕ} {count : ℕ} → Linked ss from (take count walk) → Tallied ss ts from walk count 0 from 0
 tallied-none k = record { within = omega arith; few = omega arith; rest = k; sum = λ v l x e y g. omega arith }
@@ -87,11 +82,11 @@ module _ {ss ts : List ℕ} {from : ℕ} {walk : List ℕ} {count found a i b : 
         within = omega arith;
         few = one-more (forbidden (plan-of 0 ss ts) (a / 2) (b / 2)) (t .few) q;
         rest = other-links (rw next-there at (t .rest));
-        sum = λ v l x e y g. shift found (reversals (trip ss ts l x y v e g) b (drop (i + 1) (take count walk))) q (rw next-there at (t .sum v l x e y g));
+        sum = λ v l x e y g. shift found (reversals (trip-of (query-of (plan-of v ss ts) l x e y g)) b (drop (i + 1) (take count walk))) q (rw next-there at (t .sum v l x e y g));
       }
 
 pub tallied-all : {ss ts : List ℕ} {from : ℕ} {walk : List ℕ} {count found a i : ℕ} → Tallied ss ts from walk count found a i → count ≤ length walk → count ≤ i
-    → (v l x e y g : ℕ) → found ≡ reversals (trip ss ts l x y v e g) from (take count walk)
+    → (v l x e y g : ℕ) → found ≡ reversals (trip-of (query-of (plan-of v ss ts) l x e y g)) from (take count walk)
 tallied-all {walk} {count} {i} t h d v l x e y g =
     let end : drop i (take count walk) ≡ [] = drop-of-length-le (take count walk) {i = i} (omega (arith, length-take-le count walk h)) in
     let s = rw end at (t .sum v l x e y g) in

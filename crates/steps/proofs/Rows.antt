@@ -9,25 +9,25 @@ use lib.ListN.{getD}
 use Rattle.rules.specs.Plan.{of-sections, section-count, arrivals, to-point, sec}
 use Rattle.plan.specs.Ends.{Slots, no-section}
 use Rattle.pullout.specs.Tables.{Passes, Arrived}
-use Rattle.pullout.proofs.Entering.{passed-joined, passed-three, arrived-low}
-use Rattle.pullout.proofs.Asking.{comes}
+use Rattle.pullout.proofs.Entering.{passed-joined, passed-three}
 use Rattle.pullout.proofs.ThreeSlots.{in-slot}
+use Rattle.steps.specs.declared.step.Train.{Train}
 use Rattle.steps.specs.StepOver.{trip, other-than, Meets, StepOver, StepsFrom}
-use Rattle.steps.proofs.ArrivalOver.{begins-there}
+use Rattle.steps.proofs.Arrivals.{comes-there, point-low, begins-there}
 use Rattle.steps.proofs.TwoOthers.{Rising, others-rise, low-not, high-not, other-of, other-either, slot-there, slots-rising}
 
 module _ {ss ts slots : List ℕ} {a p : ℕ} (ok : Passes ss ts) (slotted : Slots ss slots) (l : a < arrivals (of-sections ss)) (i : p ≡ to-point (of-sections ss) a) where
   own : Arrived ss (a / 2) p
-  own = rw i (comes ss a (omega arith))
+  own = comes-there a l i
 
-  pub point-low : p < 768
-  point-low = arrived-low ok own
+  pub p-low : p < 768
+  p-low = point-low a l i ok
 
   own-low : a / 2 < no-section
   own-low = omega (arith, passed-joined ok .few)
 
   rising : Rising (getD slots (3 * p + 0) 0) (getD slots (3 * p + 1) 0) (getD slots (3 * p + 2) 0)
-  rising = slots-rising (passed-joined ok) (passed-three ok) slotted p point-low
+  rising = slots-rising (passed-joined ok) (passed-three ok) slotted p p-low
 
   -- x, y and z are the sections in the slots of p, as they were read
   module _ {x y z : ℕ} (ix : x ≡ getD slots (3 * p + 0) 0) (iy : y ≡ getD slots (3 * p + 1) 0) (iz : z ≡ getD slots (3 * p + 2) 0) where
@@ -35,7 +35,7 @@ module _ {ss ts slots : List ℕ} {a p : ℕ} (ok : Passes ss ts) (slotted : Slo
     rises = rw (ix, iy, iz) rising
 
     at : (n j : ℕ) → n ≡ getD slots (3 * p + j) 0 → j < 3 → n < section-count (of-sections ss) → Arrived ss n p
-    at n j e h k = rw e (slot-there (passed-joined ok) (passed-three ok) slotted p point-low j h (rw e at k))
+    at n j e h k = rw e (slot-there (passed-joined ok) (passed-three ok) slotted p p-low j h (rw e at k))
 
     pub meets-low : {s : ℕ} → s ≡ other-than (a / 2) x y → Meets ss a p s
     meets-low {s} e =
@@ -56,10 +56,10 @@ module _ {ss ts slots : List ℕ} {a p : ℕ} (ok : Passes ss ts) (slotted : Slo
         }
 
     -- k and m are the costs of the steps over the two
-    pub steps-from : (length start finish v e g : ℕ) {low high b k d m : ℕ} → low ≡ other-than (a / 2) x y → high ≡ other-than (a / 2) z y
-        → StepOver (trip ss ts length start finish v e g) a low b k → StepOver (trip ss ts length start finish v e g) a high d m
-        → StepsFrom (trip ss ts length start finish v e g) a b k d m
-    steps-from length start finish v e g {low} {high} il ih first second =
+    pub steps-from : (train : Train) (v e g : ℕ) {low high b k d m : ℕ} → low ≡ other-than (a / 2) x y → high ≡ other-than (a / 2) z y
+        → StepOver (trip ss ts train v e g) a low b k → StepOver (trip ss ts train v e g) a high d m
+        → StepsFrom (trip ss ts train v e g) a b k d m
+    steps-from train v e g {low} {high} il ih first second =
         record {
           low = low;
           high = high;

@@ -12,23 +12,23 @@ use Rattle.rules.specs.Query.{query-of}
 use Rattle.rules.specs.Net.{no-distance}
 use Rattle.rules.specs.Trip.{Trip, Step, cost, trip-of}
 use Rattle.pullout.specs.Tables.{Passes, TurnTable, Arrived}
+use Rattle.steps.specs.declared.step.Train.{Train}
 use Rattle.steps.specs.Served.{Served}
 
--- the trip of a train of this length from this start section to this finish section; the number of points and the two ends are of no
--- matter to its steps
-abbrev pub trip : List ℕ → List ℕ → ℕ → ℕ → ℕ → ℕ → ℕ → ℕ → Trip
-trip ss ts length start finish v e g = trip-of (query-of (plan-of v ss ts) length start e finish g)
+-- the trip of a train; the number of points and the ends by which it leaves and enters are of no matter to its steps
+abbrev pub trip : List ℕ → List ℕ → Train → ℕ → ℕ → ℕ → Trip
+trip ss ts train v e g = trip-of (query-of (plan-of v ss ts) (train .length) (train .start) e (train .finish) g)
 
 -- whether a step of it may enter section s
-abbrev pub may-enter : List ℕ → ℕ → ℕ → ℕ → Bool
-may-enter ss start finish = trip ss [] 0 start finish 0 0 0 .may-step
+abbrev pub may-enter : List ℕ → Train → ℕ → Bool
+may-enter ss train = trip ss [] train 0 0 0 .may-step
 
 -- all that is known of the tables that are read for a step
-pub record StepTables (ss ts table served : List ℕ) (length start finish : ℕ) : Type 0 where
+pub record StepTables (ss ts table served : List ℕ) (train : Train) : Type 0 where
   pub checked : Passes ss ts
   pub turned : TurnTable ss ts table
-  pub serving : (v : ℕ) → Served (plan-of v ss ts) (may-enter ss start finish) length served
-  pub short : length ≤ 20000
+  pub serving : (v : ℕ) → Served (plan-of v ss ts) (may-enter ss train) (train .length) served
+  pub short : train .length ≤ 20000
 
 -- the arrival a has come to p; where s is a section, it is another one at p
 pub record Meets (ss : List ℕ) (a p s : ℕ) : Type 0 where

@@ -7,6 +7,7 @@ ghost use Rattle.plan.specs.Ends.{Slots};
 ghost use Rattle.steps.specs.StepTable.{StepTable};
 ghost use Rattle.steps.specs.StepOver.{trip, StepTables, pair-at};
 use crate::row::row_at;
+use crate::step::Train;
 use plan::read::section_count;
 use plan::read::wide;
 
@@ -27,29 +28,17 @@ pub(crate) fn fill_rows(
     slots: &[u32; 2304],
     table: &[u32; 1536],
     served: &[u32; 768],
-    length: u32,
-    start: u32,
-    finish: u32,
+    train: Train,
     next: &mut [u32],
     cost: &mut [u32],
 )
-    requires { ⌜ StepTables (now sections) (now turns) (now table) (now served) length start finish × Slots (now sections) (now slots) × (2 * arrivals (of-sections (now sections)) ≤ length-of (now next)) × (2 * arrivals (of-sections (now sections)) ≤ length-of (now cost)) ⌝ }
-    ensures { λ _. ⌜ ((v e g : ℕ) → StepTable (trip (now (sections .entry)) (now (turns .entry)) length start finish v e g) (now (next .exit)) (now (cost .exit))) ⌝ }
+    requires { ⌜ StepTables (now sections) (now turns) (now table) (now served) train × Slots (now sections) (now slots) × (2 * arrivals (of-sections (now sections)) ≤ length-of (now next)) × (2 * arrivals (of-sections (now sections)) ≤ length-of (now cost)) ⌝ }
+    ensures { λ _. ⌜ ((v e g : ℕ) → StepTable (trip (now (sections .entry)) (now (turns .entry)) train v e g) (now (next .exit)) (now (cost .exit))) ⌝ }
 {
     let count = 2 * section_count(sections);
     let mut a = 0;
     while a < count {
-        let row = row_at(
-            sections,
-            turns,
-            slots,
-            table,
-            served,
-            length,
-            start,
-            finish,
-            a,
-        );
+        let row = row_at(sections, turns, slots, table, served, train, a);
         put_pair(next, a, row.first.next, row.second.next);
         put_pair(cost, a, row.first.cost, row.second.cost);
         a += 1;

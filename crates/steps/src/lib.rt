@@ -15,6 +15,7 @@ ghost use Rattle.pullout.specs.Tables.{Tables};
 ghost use Rattle.steps.specs.StepTable.{StepTable};
 use fill::fill_rows;
 use serve::served;
+use step::Train;
 
 // Every admissible step of the query's train, into the fronts of next and cost.
 pub fn fill_steps(
@@ -31,17 +32,11 @@ pub fn fill_steps(
     requires { ⌜ Tables (now sections) (now turns) (now slots) (now table) × (0 < length) × (length ≤ 20000) × (2 * arrivals (of-sections (now sections)) ≤ length-of (now next)) × (2 * arrivals (of-sections (now sections)) ≤ length-of (now cost)) ⌝ }
     ensures { λ _. ⌜ ((v e g : ℕ) → StepTable (trip-of (query-of (plan-of v (now (sections .entry)) (now (turns .entry))) length start e finish g)) (now (next .exit)) (now (cost .exit))) ⌝ }
 {
-    let points = served(sections, turns, slots, table, length, start, finish);
-    fill_rows(
-        sections,
-        turns,
-        slots,
-        table,
-        &points,
+    let train = Train {
         length,
         start,
         finish,
-        next,
-        cost,
-    );
+    };
+    let points = served(sections, turns, slots, table, train);
+    fill_rows(sections, turns, slots, table, &points, train, next, cost);
 }

@@ -5,6 +5,7 @@ ghost use Rattle.rules.specs.Plan.{of-sections, arrivals};
 ghost use Rattle.plan.specs.Ends.{Slots};
 ghost use Rattle.steps.specs.StepOver.{trip, StepTables, other-than, StepsFrom};
 use crate::step::Step;
+use crate::step::Train;
 use crate::step::step_over;
 use plan::read::section_number;
 use plan::slots::slot_at;
@@ -32,13 +33,11 @@ pub(crate) fn row_at(
     slots: &[u32; 2304],
     table: &[u32; 1536],
     served: &[u32; 768],
-    length: u32,
-    start: u32,
-    finish: u32,
+    train: Train,
     a: u32,
 ) -> Row
-    requires { ⌜ StepTables (now sections) (now turns) (now table) (now served) length start finish × Slots (now sections) (now slots) × (a < arrivals (of-sections (now sections))) ⌝ }
-    ensures { λ r. ⌜ ((v e g : ℕ) → StepsFrom (trip (now (sections .entry)) (now (turns .entry)) length start finish v e g) a (r .first .next) (r .first .cost) (r .second .next) (r .second .cost)) ⌝ }
+    requires { ⌜ StepTables (now sections) (now turns) (now table) (now served) train × Slots (now sections) (now slots) × (a < arrivals (of-sections (now sections))) ⌝ }
+    ensures { λ r. ⌜ ((v e g : ℕ) → StepsFrom (trip (now (sections .entry)) (now (turns .entry)) train v e g) a (r .first .next) (r .first .cost) (r .second .next) (r .second .cost)) ⌝ }
 {
     let c = a / 2;
     let p = section_number(sections, c, a % 2);
@@ -47,29 +46,7 @@ pub(crate) fn row_at(
     let z = slot_at(slots, p, 2);
     let low = other_than(c, x, y);
     let high = other_than(c, z, y);
-    let first = step_over(
-        sections,
-        turns,
-        table,
-        served,
-        length,
-        start,
-        finish,
-        a,
-        p,
-        low,
-    );
-    let second = step_over(
-        sections,
-        turns,
-        table,
-        served,
-        length,
-        start,
-        finish,
-        a,
-        p,
-        high,
-    );
+    let first = step_over(sections, turns, table, served, train, a, p, low);
+    let second = step_over(sections, turns, table, served, train, a, p, high);
     Row { first, second }
 }

@@ -10,6 +10,16 @@ use plan::read::wide;
 use plan::section::is_free;
 use pullout::turn_table::is_forbidden;
 
+// No arrival has this number.
+const NONE: u32 = 4294967295;
+
+// A train: its length, the section that it leaves and the section that it enters.
+pub struct Train {
+    pub length: u32,
+    pub start: u32,
+    pub finish: u32,
+}
+
 // The arrival to which it leads and its cost, or "none" and 0.
 pub struct Step {
     pub next: u32,
@@ -17,13 +27,13 @@ pub struct Step {
 }
 
 // A step may enter section s.
-pub(crate) fn may_step(sections: &[u32], start: u32, finish: u32, s: u32) -> bool
-    ensures { λ r. ⌜ r ≡ may-enter (now (sections .entry)) start finish s ⌝ }
+pub(crate) fn may_step(sections: &[u32], train: Train, s: u32) -> bool
+    ensures { λ r. ⌜ r ≡ may-enter (now (sections .entry)) train s ⌝ }
 {
-    if s == finish {
+    if s == train.finish {
         return false;
     }
-    if s == start {
+    if s == train.start {
         return false;
     }
     is_free(sections, s)
@@ -46,27 +56,23 @@ pub(crate) fn step_over(
     turns: &[u32],
     table: &[u32; 1536],
     served: &[u32; 768],
-    length: u32,
-    start: u32,
-    finish: u32,
+    train: Train,
     a: u32,
     p: u32,
     s: u32,
 ) -> Step
-    requires { ⌜ StepTables (now sections) (now turns) (now table) (now served) length start finish × Meets (now sections) a p s ⌝ }
-    ensures { λ r. ⌜ ((v e g : ℕ) → StepOver (trip (now (sections .entry)) (now (turns .entry)) length start finish v e g) a s (r .next) (r .cost)) ⌝ }
+    requires { ⌜ StepTables (now sections) (now turns) (now table) (now served) train × Meets (now sections) a p s ⌝ }
+    ensures { λ r. ⌜ ((v e g : ℕ) → StepOver (trip (now (sections .entry)) (now (turns .entry)) train v e g) a s (r .next) (r .cost)) ⌝ }
 {
+    let none = Step {
+        next: NONE,
+        cost: 0,
+    };
     if !has_section(sections, s) {
-        return Step {
-            next: 4294967295,
-            cost: 0,
-        };
+        return none;
     }
-    if !may_step(sections, start, finish, s) {
-        return Step {
-            next: 4294967295,
-            cost: 0,
-        };
+    if !may_step(sections, train, s) {
+        return none;
     }
     let whole = section_number(sections, s, LENGTH);
     let next = arrival_over(sections, s, p);
@@ -74,13 +80,8 @@ pub(crate) fn step_over(
         return Step { next, cost: whole };
     }
     if served[wide(p)] == 1 {
-        return Step {
-            next,
-            cost: length + whole,
-        };
+        let cost = train.length + whole;
+        return Step { next, cost };
     }
-    Step {
-        next: 4294967295,
-        cost: 0,
-    }
+    none
 }

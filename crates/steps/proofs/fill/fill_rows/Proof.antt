@@ -11,11 +11,11 @@ use Rattle.steps.proofs.fill.fill_rows.Statement.{statement}
 use Rattle.steps.proofs.fill.fill_rows.Tie as tie
 
 abbrev Inv-loop : tie.InvT-loop
-Inv-loop sections turns slots table served length start finish next₀ cost₀ count a₀ next cost a =
-    (length-of next ≡ length-of next₀) × (length-of cost ≡ length-of cost₀) × Written sections turns length start finish next cost count a
+Inv-loop sections turns slots table served train next₀ cost₀ count a₀ next cost a =
+    (length-of next ≡ length-of next₀) × (length-of cost ≡ length-of cost₀) × Written sections turns train next cost count a
 
 abbrev μ-loop : tie.MeasureT-loop
-μ-loop sections turns slots table served length start finish next₀ cost₀ count a₀ next cost a = count - a
+μ-loop sections turns slots table served train next₀ cost₀ count a₀ next cost a = count - a
 
 section-count-requires : tie.Need-section-count-requires Inv-loop μ-loop
 section-count-requires c κs = omega (arith, passed-joined (c .before .before .before .before .pre .0 .checked) .few)

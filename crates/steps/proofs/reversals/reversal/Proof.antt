@@ -1,6 +1,6 @@
 -- `reversals::reversal` meets its contract: the table says whether the turn is forbidden.
 -- Assumes nothing.
-use Rattle.steps.proofs.Reversing.{point-low, reversed, run-on}
+use Rattle.steps.proofs.Reversing.{p-low, reversed, run-on}
 use borrow.Author.Needs.{needs}
 use Rattle.steps.proofs.reversals.reversal.Statement.{statement}
 use Rattle.steps.proofs.reversals.reversal.Tie as tie
@@ -11,7 +11,7 @@ section-number-requires c κs = search needs
 is-forbidden-requires : tie.Need-is-forbidden-requires
 is-forbidden-requires c κs =
     let known = c .before .before .before .pre in
-    point-low (known .0) (known .1) (known .2) (c .section-number .ensures)
+    p-low (known .0) (known .1) (known .2) (c .section-number .ensures)
 
 returns : tie.Need-returns
 returns c =

@@ -9,10 +9,10 @@ use Rattle.steps.proofs.serve.served.Statement.{statement}
 use Rattle.steps.proofs.serve.served.Tie as tie
 
 abbrev Inv-loop : tie.InvT-loop
-Inv-loop sections turns slots table length start finish count points₀ t₀ points t = Asked sections turns (may-enter sections start finish) length points count t
+Inv-loop sections turns slots table train count points₀ t₀ points t = Asked sections turns (may-enter sections train) (train .length) points count t
 
 abbrev μ-loop : tie.MeasureT-loop
-μ-loop sections turns slots table length start finish count points₀ t₀ points t = count - t
+μ-loop sections turns slots table train count points₀ t₀ points t = count - t
 
 turn-count-requires : tie.Need-turn-count-requires Inv-loop μ-loop
 turn-count-requires c κs = omega (arith, few-turns (c .before .before .pre .0 .checked))
@@ -20,7 +20,7 @@ turn-count-requires c κs = omega (arith, few-turns (c .before .before .pre .0 .
 loop-holds : tie.Need-loop-holds Inv-loop μ-loop
 loop-holds c =
     let a = c .before .before .before .args in
-    asked-none (may-enter (a .sections .now) (a .start) (a .finish)) (c .turn-count .ensures)
+    asked-none (may-enter (a .sections .now) (a .train)) (c .turn-count .ensures)
 
 turn-point-requires : tie.Need-turn-point-requires Inv-loop μ-loop
 turn-point-requires c κs = tt

@@ -18,7 +18,7 @@ may-use-requires c κs = search needs
 returns : tie.Need-returns
 returns c =
     let start = c .before .before .before .before .before .before in
-    λ v. not-asked (may-enter (start .args .sections .now) (start .args .start) (start .args .finish)) (c .before .before .before .turn-number .ensures) (c .before .before .turn-number2 .ensures) (c .before .may-use .ensures) (c .if1 .taken)
+    λ v. not-asked (may-enter (start .args .sections .now) (start .args .train)) (c .before .before .before .turn-number .ensures) (c .before .before .turn-number2 .ensures) (c .before .may-use .ensures) (c .if1 .taken)
 
 serves-requires : tie.Need-serves-requires
 serves-requires c κs =
@@ -29,12 +29,12 @@ serves-requires c κs =
 returns-2 : tie.Need-returns-2
 returns-2 c =
     let start = c .before .before .before .before .before .before .before .before in
-    λ v. is-served (may-enter (start .args .sections .now) (start .args .start) (start .args .finish)) (c .before .before .before .before .before .turn-number .ensures) (c .before .before .before .before .turn-number2 .ensures) (start .pre .3) (c .before .serves .ensures v) (c .if2 .taken)
+    λ v. is-served (may-enter (start .args .sections .now) (start .args .train)) (c .before .before .before .before .before .turn-number .ensures) (c .before .before .before .before .turn-number2 .ensures) (start .pre .3) (c .before .serves .ensures v) (c .if2 .taken)
 
 returns-3 : tie.Need-returns-3
 returns-3 c =
     let start = c .before .before .before .before .before .before .before .before in
-    λ v. is-unserved (may-enter (start .args .sections .now) (start .args .start) (start .args .finish)) (c .before .before .before .before .before .turn-number .ensures) (c .before .before .before .before .turn-number2 .ensures) (start .pre .3) (c .before .serves .ensures v) (c .if2 .left)
+    λ v. is-unserved (may-enter (start .args .sections .now) (start .args .train)) (c .before .before .before .before .before .turn-number .ensures) (c .before .before .before .before .turn-number2 .ensures) (start .pre .3) (c .before .serves .ensures v) (c .if2 .left)
 
 pub turn-served-spec : {M : Type 1} → statement M
 turn-served-spec =

@@ -17,7 +17,7 @@ is-free-requires c κs = search needs
 
 returns-3 : tie.Need-returns-3
 returns-3 c =
-    all-three _ (c .is-free .ensures) (gives-true (not-eqb-iff _ _ .1 (c .before .before .if1 .left))) (gives-true (not-eqb-iff _ _ .1 (c .before .if2 .left)))
+    all-three _ (c .is-free .ensures) (gives-true (not-eqb-iff _ _ .1 (c .before .before .before .if1 .left))) (gives-true (not-eqb-iff _ _ .1 (c .before .if2 .left)))
 
 pub may-step-spec : {M : Type 1} → statement M
 may-step-spec = tie.close (tie.spec returns returns-2 is-free-requires returns-3)

@@ -2,7 +2,7 @@
 -- Assumes nothing.
 use native.Mathlib.Omega.{arith}
 use Rattle.pullout.proofs.Entering.{section-low}
-use Rattle.steps.proofs.Stepping.{point-low, is-section, is-entered, cost-low, no-such-section, not-entered, runs-on, pulls-out, no-pull-out}
+use Rattle.steps.proofs.Stepping.{p-low, is-section, is-entered, cost-low, no-such-section, not-entered, runs-on, pulls-out, no-pull-out}
 use borrow.Author.Needs.{needs}
 use Rattle.steps.proofs.step.step_over.Statement.{statement}
 use Rattle.steps.proofs.step.step_over.Tie as tie
@@ -34,7 +34,7 @@ arrival-over-requires c κs =
 is-forbidden-requires : tie.Need-is-forbidden-requires
 is-forbidden-requires c κs =
     let known = c .before .before .before .before .before .before .before .before .pre in
-    point-low (known .0) (known .1)
+    p-low (known .0) (known .1)
 
 returns-3 : tie.Need-returns-3
 returns-3 c =
@@ -51,18 +51,19 @@ mul-if4 c = search needs
 element-copy-out-if4 : tie.Need-element-copy-out-if4
 element-copy-out-if4 c =
     let known = c .before .before .before .before .before .before .before .before .before .before .before .pre in
-    omega (arith, c .wide .ensures, point-low (known .0) (known .1))
+    omega (arith, c .wide .ensures, p-low (known .0) (known .1))
 
-add-t20 : tie.Need-add-t20
-add-t20 c =
-    let known = c .before .before .before .before .before .before .before .before .before .before .before .before .before .pre in
-    omega (arith, cost-low (known .0) (known .1) (is-section (known .0) (known .1) (c .before .before .before .before .before .before .before .before .before .before .has-section .ensures) (c .before .before .before .before .before .before .before .before .before .if1 .left)) (c .before .before .before .before .before .before .section-number .ensures))
+add-cost : tie.Need-add-cost
+add-cost c =
+    let known = c .before .before .before .before .before .before .before .before .before .before .before .before .before .before .pre in
+    omega (arith, cost-low (known .0) (known .1) (is-section (known .0) (known .1) (c .before .before .before .before .before .before .before .before .before .before .before .has-section .ensures) (c .before .before .before .before .before .before .before .before .before .before .if1 .left)) (c .before .before .before .before .before .before .before .section-number .ensures))
 
 returns-4 : tie.Need-returns-4
 returns-4 c =
-    let known = c .before .before .before .before .before .before .before .before .before .before .before .before .before .pre in
-    λ v e g. pulls-out (known .0) (known .1) v e g (is-section (known .0) (known .1) (c .before .before .before .before .before .before .before .before .before .before .has-section .ensures) (c .before .before .before .before .before .before .before .before .before .if1 .left)) (c .before .before .before .before .before .arrival-over .ensures)
-    (is-entered (known .0) (known .1) (c .before .before .before .before .before .before .before .before .may-step .ensures) (c .before .before .before .before .before .before .before .if2 .left)) (c .before .before .before .before .is-forbidden .ensures) (c .before .before .before .if3 .left) (rw (c .before .before .wide .ensures .0) at (c .if4 .taken)) (c .before .before .before .before .before .before .section-number .ensures)
+    let known = c .before .before .before .before .before .before .before .before .before .before .before .before .before .before .pre in
+    λ v e g. pulls-out (known .0) (known .1) v e g (is-section (known .0) (known .1) (c .before .before .before .before .before .before .before .before .before .before .before .has-section .ensures) (c .before .before .before .before .before .before .before .before .before .before .if1 .left)) (c .before .before .before .before .before .before .arrival-over .ensures)
+    (is-entered (known .0) (known .1) (c .before .before .before .before .before .before .before .before .before .may-step .ensures) (c .before .before .before .before .before .before .before .before .if2 .left)) (c .before .before .before .before .before .is-forbidden .ensures) (c .before .before .before .before .if3 .left)
+    (rw (c .before .before .before .wide .ensures .0) at (c .before .if4 .taken)) (c .before .before .before .before .before .before .before .section-number .ensures)
 
 returns-5 : tie.Need-returns-5
 returns-5 c =
@@ -84,6 +85,6 @@ step-over-spec =
     wide-requires
     mul-if4
     element-copy-out-if4
-    add-t20
+    add-cost
     returns-4
     returns-5)
