@@ -1,4 +1,4 @@
--- The turns that a pull-out serves: what one search says, how the table is filled, and that one answer is right for both ways.
+-- The turns that a pull-out serves: how the table is filled, and that one answer is right for both ways.
 -- Assumes nothing.
 use mathlib.Core.Path.{_≡_, refl, sym, _∙_}
 use mathlib.Core.Logic.{_≢_, _⊎_, inl, inr, ⊎-elim}
@@ -19,15 +19,10 @@ use Rattle.rules.proofs.TurnPoints.{is-turn, turn-cases, turn-there}
 use Rattle.rules.proofs.PullSwap.{Barred, barred-back, swapped}
 use Rattle.plan.proofs.Known.{plan-turned}
 use Rattle.pullout.specs.Tables.{Passes, Arrived}
-use Rattle.pullout.specs.Searched.{Searched, none-there, first-there}
-use Rattle.steps.specs.Served.{Serves, TurnServed, Served}
+use Rattle.reversal.specs.Reverses.{Reverses}
+use Rattle.reversal.proofs.Reversing.{reverses-true, reverses-false}
+use Rattle.steps.specs.Served.{TurnServed, Served}
 use Rattle.steps.proofs.AnyPoints.{pull-points, barred-points}
-
--- what the count of the sections found says
-pub search-serves : {y : Plan} {need c p s n : ℕ} {b a : List ℕ} → Searched y need c p s b n a → Serves y need c p s (not (eqb n 0))
-search-serves {n} (none-there e q none) = rw e (record { served = λ z. absurd (false≢true z); unserved = λ z. none })
-search-serves {n} (first-there qs e l m q first) =
-    rw (ne-eqb n 0 (λ z. omega arith)) (record { served = λ z. (qs, first .pull-out); unserved = λ z. absurd (true≢false z) })
 
 -- the answer for turn t, whose sections and point were read as c, s and p
 module _ {y : Plan} (may : ℕ → Bool) {need t c s : ℕ} (ic : c ≡ turn-section y t 0) (is : s ≡ turn-section y t 1) where
@@ -39,12 +34,12 @@ module _ {y : Plan} (may : ℕ → Bool) {need t c s : ℕ} (ic : c ≡ turn-sec
             (says-false (may c || may s) (not-true r n) e));
       }
 
-  module _ {p : ℕ} {r : Bool} (ip : p ≡ turn-point y t) (w : Serves y need c p s r) where
+  module _ {p : ℕ} {r : Bool} (ip : p ≡ turn-point y t) (w : Reverses y need c p s r) where
     pub is-served : r ≡ true → TurnServed y may need t 1
-    is-served q = record { served = λ z. rw (ic, ip, is) at (w .served q); unserved = λ z. absurd (z refl) }
+    is-served q = record { served = λ z. rw (ic, ip, is) at (reverses-true w q); unserved = λ z. absurd (z refl) }
 
     pub is-unserved : r ≡ false → TurnServed y may need t 0
-    is-unserved q = record { served = λ z. absurd (omega arith); unserved = λ z m. rw (ic, ip, is) at (w .unserved q) }
+    is-unserved q = record { served = λ z. absurd (omega arith); unserved = λ z m. rw (ic, ip, is) at (reverses-false w q) }
 
 -- what the passed checks say of the turns
 pub few-turns : {ss ts : List ℕ} → Passes ss ts → turn-count (plan-of 0 ss ts) ≤ 768

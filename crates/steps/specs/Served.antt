@@ -2,7 +2,7 @@
 -- Assumes nothing.
 use mathlib.Core.Path.{_≡_}
 use mathlib.Core.Logic.{_≢_, _⊎_}
-use mathlib.Core.Bool.{Bool, true, false}
+use mathlib.Core.Bool.{Bool}
 use mathlib.Core.List.{List}
 use Prim.Native.Nat.{ℕ}
 use lib.Dec.{T}
@@ -10,11 +10,6 @@ use lib.ListN.{getD}
 use Rattle.rules.specs.Plan.{Plan, turn-section, turn-point}
 use Rattle.rules.specs.PullOut.{PullOut, NoPullOut, any-section}
 use Rattle.rules.proofs.PullSwap.{Barred}
-
--- r tells whether there is a pull-out for (c, p, s)
-pub record Serves (y : Plan) (need c p s : ℕ) (r : Bool) : Type 0 where
-  pub served : r ≡ true → (qs : List ℕ) × PullOut y any-section need c p s qs
-  pub unserved : r ≡ false → NoPullOut y any-section need c p s
 
 -- r is 1 where a pull-out serves turn t. Of a turn with no section that a step may enter nothing else is asked
 pub record TurnServed (y : Plan) (may : ℕ → Bool) (need t r : ℕ) : Type 0 where

@@ -3,8 +3,8 @@ ghost use mathlib.Core.Path.{_≡_};
 ghost use mathlib.Core.Bool.{_||_};
 ghost use Prim.Native.Nat.{ℕ, _<_};
 ghost use Rattle.rules.specs.Plan.{plan-of, turn-count, turn-point};
-ghost use Rattle.pullout.specs.Tables.{Tables, Arrived};
-ghost use Rattle.steps.specs.Served.{Serves, TurnServed, Served};
+ghost use Rattle.pullout.specs.Tables.{Tables};
+ghost use Rattle.steps.specs.Served.{TurnServed, Served};
 ghost use Rattle.steps.specs.StepOver.{may-enter};
 use crate::step::Train;
 use crate::step::may_step;
@@ -12,39 +12,7 @@ use plan::read::turn_count;
 use plan::read::turn_number;
 use plan::read::wide;
 use plan::turn::turn_point;
-use pullout::cut::cut_for;
-use pullout::search::first_pull_out;
-
-// There is a pull-out for (c, p, s).
-fn serves(
-    sections: &[u32],
-    turns: &[u32],
-    slots: &[u32; 2304],
-    table: &[u32; 1536],
-    length: u32,
-    c: u32,
-    p: u32,
-    s: u32,
-) -> bool
-    requires { ⌜ Tables (now sections) (now turns) (now slots) (now table) × Arrived (now sections) c p × (0 < length) ⌝ }
-    ensures { λ r. ⌜ ((v : ℕ) → Serves (plan-of v (now (sections .entry)) (now (turns .entry))) length c p s r) ⌝ }
-{
-    let mut list = [0; 768];
-    let cut = cut_for(sections, turns, slots, table, c, p, s, length);
-    let count = first_pull_out(
-        sections,
-        turns,
-        slots,
-        table,
-        &cut,
-        &mut list,
-        length,
-        c,
-        p,
-        s,
-    );
-    count != 0
-}
+use reversal::can_reverse;
 
 // A step may enter one of two sections.
 fn may_use(sections: &[u32], train: Train, x: u32, y: u32) -> bool
@@ -74,7 +42,7 @@ fn turn_served(
     if !may_use(sections, train, c, s) {
         return 0;
     }
-    if serves(sections, turns, slots, table, train.length, c, p, s) {
+    if can_reverse(sections, turns, slots, table, train.length, c, p, s) {
         return 1;
     }
     0

@@ -20,8 +20,8 @@ returns c =
     let start = c .before .before .before .before .before .before in
     λ v. not-asked (may-enter (start .args .sections .now) (start .args .train)) (c .before .before .before .turn-number .ensures) (c .before .before .turn-number2 .ensures) (c .before .may-use .ensures) (c .if1 .taken)
 
-serves-requires : tie.Need-serves-requires
-serves-requires c κs =
+can-reverse-requires : tie.Need-can-reverse-requires
+can-reverse-requires c κs =
     let start = c .before .before .before .before .before .before in
     let known = start .pre in
     (known .0, turn-arrived (known .0 .checked) (start .args .t) (known .2) (c .before .before .before .turn-number .ensures) (known .3), known .1)
@@ -29,12 +29,12 @@ serves-requires c κs =
 returns-2 : tie.Need-returns-2
 returns-2 c =
     let start = c .before .before .before .before .before .before .before .before in
-    λ v. is-served (may-enter (start .args .sections .now) (start .args .train)) (c .before .before .before .before .before .turn-number .ensures) (c .before .before .before .before .turn-number2 .ensures) (start .pre .3) (c .before .serves .ensures v) (c .if2 .taken)
+    λ v. is-served (may-enter (start .args .sections .now) (start .args .train)) (c .before .before .before .before .before .turn-number .ensures) (c .before .before .before .before .turn-number2 .ensures) (start .pre .3) (c .before .can-reverse .ensures v) (c .if2 .taken)
 
 returns-3 : tie.Need-returns-3
 returns-3 c =
     let start = c .before .before .before .before .before .before .before .before in
-    λ v. is-unserved (may-enter (start .args .sections .now) (start .args .train)) (c .before .before .before .before .before .turn-number .ensures) (c .before .before .before .before .turn-number2 .ensures) (start .pre .3) (c .before .serves .ensures v) (c .if2 .left)
+    λ v. is-unserved (may-enter (start .args .sections .now) (start .args .train)) (c .before .before .before .before .before .turn-number .ensures) (c .before .before .before .before .turn-number2 .ensures) (start .pre .3) (c .before .can-reverse .ensures v) (c .if2 .left)
 
 pub turn-served-spec : {M : Type 1} → statement M
 turn-served-spec =
@@ -44,6 +44,6 @@ turn-served-spec =
     turn-number-requires-2
     may-use-requires
     returns
-    serves-requires
+    can-reverse-requires
     returns-2
     returns-3)
