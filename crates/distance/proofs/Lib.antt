@@ -1,4 +1,4 @@
--- Laws that the functions' proofs cite.
+-- The laws that the proofs of this crate's functions share, and those that its callers' proofs cite.
 pub mod Sums
 pub mod Offers
 pub mod Lowering
@@ -6,3 +6,4 @@ pub mod TightNet
 pub mod Exactness
 pub mod Fronts
 pub mod Following
+pub mod Unique

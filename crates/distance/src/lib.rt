@@ -8,9 +8,9 @@
 // An arrival comes into the queue only when its label falls, and then passes its label back over the steps that lead to it. In round i
 // of the queue each arrival is taken out at most once, and after it every label is at most the distance of the best walk of i steps or
 // fewer. A shortest walk has fewer steps than there are arrivals, so with n arrivals, which have at most 2n steps, there are at most n
-// rounds, n * n arrivals taken out, and 2 * n * n labels passed back: the budget of 2,048 * 2,048 is never spent. Mostly labels fall
-// once or twice, which makes it a small multiple of n. The first sweep then finds nothing to lower, and it costs n. Were it otherwise,
-// the sweeps alone would end after n of them.
+// rounds, n * n arrivals taken out, and 2 * n * n labels passed back: the budget of 2,048 * 2,048 never cuts it short. Where costs are
+// not made up so that labels fall again and again, an arrival is taken out a few times, and all is a small multiple of n. The first
+// sweep then finds nothing to lower, and costs n. Were it otherwise, the sweeps alone would end after n of them.
 mod label;
 mod sweep;
 mod walk;
