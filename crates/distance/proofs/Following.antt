@@ -20,7 +20,8 @@ use Rattle.distance.specs.Answer.{Exact, Written}
 use Rattle.distance.specs.Labels.{offer}
 use Rattle.distance.specs.Picked.{Picked, first, second}
 use Rattle.distance.proofs.Sums.{any-default}
-use Rattle.distance.proofs.Exactness.{label-of, cost-at, bounded, offered-step}
+use Rattle.distance.proofs.TableNet.{cost-at, bounded}
+use Rattle.distance.proofs.Exactness.{label-of, offered-step}
 
 -- k arrivals are written, and lead from the arrival `start` to the arrival a; whatever follows from a follows from the start behind them
 pub record Going (N : Net) (labels : List ℕ) (start : ℕ) (entry list : List ℕ) (a k : ℕ) : Type 0 where

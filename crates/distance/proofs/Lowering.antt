@@ -39,7 +39,7 @@ module _ {next cost ends : List ℕ} {room : ℕ} where
   pub kept-more : {l m k : List ℕ} → Kept next cost ends room l m → Kept next cost ends room m k → Kept next cost ends room l k
   kept-more K J = record { size = J .size ∙ K .size; keeps = λ A. J .keeps (K .keeps A) }
 
-  pub lowered-kept : {l m : List ℕ} {a v r : ℕ} → a < length l → best next cost ends room l a ≤ v → Lowered l m a v r → Kept next cost ends room l m
+  lowered-kept : {l m : List ℕ} {a v r : ℕ} → a < length l → best next cost ends room l a ≤ v → Lowered l m a v r → Kept next cost ends room l m
   lowered-kept {l} {a = a} {v = v} h o (fell e p q) = rw q (record { size = length-set l a v; keeps = above-set l a v h o (omega arith) })
   lowered-kept h o (stayed e p q) = rw q kept-none
 

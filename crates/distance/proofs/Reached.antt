@@ -11,7 +11,7 @@ use Rattle.rules.proofs.Simple.{far-below}
 use Rattle.distance.specs.Table.{table-net, Table}
 use Rattle.distance.specs.Answer.{Exact}
 use Rattle.distance.proofs.Sums.{any-default}
-use Rattle.distance.proofs.Exactness.{bounded}
+use Rattle.distance.proofs.TableNet.{bounded}
 
 module _ {next cost ends labels : List ℕ} {room n : ℕ} (T : Table next cost ends room n) (X : Exact (table-net next cost ends room n) n labels)
     (long : n ≤ length labels) where

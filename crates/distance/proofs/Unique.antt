@@ -12,7 +12,7 @@ use Rattle.rules.proofs.Walks.{remaining-unique}
 use Rattle.rules.proofs.First.{first-unique}
 use Rattle.distance.specs.Table.{table-net, Table}
 use Rattle.distance.specs.Answer.{Labels, Written}
-use Rattle.distance.proofs.Exactness.{bounded}
+use Rattle.distance.proofs.TableNet.{bounded}
 use Rattle.distance.proofs.Fronts.{read-front}
 
 -- arrival by arrival the remaining distance is one number, and the rest is as it was

@@ -50,7 +50,8 @@ pub fn remaining(
     remaining_of_all(next, cost, ends, room, &mut labels[..count]);
 }
 
-// The first shortest walk from an arrival that has one, into the front of walk, and how many steps it has.
+// The first shortest walk from an arrival that has one, into the front of walk, and how many steps it has. The room is not read: it
+// says of which distances the labels speak.
 pub fn first_walk(
     next: &[u32],
     cost: &[u32],
