@@ -8,7 +8,7 @@ use Prim.Native.Nat.{ℕ, suc, _+_, _*_, _≤_, _<_}
 use native.Mathlib.Decide.{ℕ-discrete}
 use native.Mathlib.Numerals.{add-one}
 use native.Mathlib.Omega.{arith}
-use lib.ListN.{length, getD, set, drop, length-append}
+use lib.ListN.{length, getD, set, drop, length-set, length-append}
 use lib.Seq.{append-snoc, drop-cons, set-at}
 use Rattle.rules.specs.Plan.{sec}
 use Rattle.rules.specs.Net.{no-distance, Net, onward, distance, Shortest, Remaining, no-walk, by-walk, KeepsRules}
@@ -20,19 +20,22 @@ use Rattle.distance.specs.Answer.{Exact, Written}
 use Rattle.distance.specs.Labels.{offer}
 use Rattle.distance.specs.Picked.{Picked, first, second}
 use Rattle.distance.proofs.Sums.{any-default}
-use Rattle.distance.proofs.Exactness.{label-of, cost-at, bounded, offered-step}
+use Rattle.distance.proofs.TableNet.{cost-at, bounded}
+use Rattle.distance.proofs.Exactness.{label-of, offered-step}
 
 -- k arrivals are written, and lead from the arrival `start` to the arrival a; whatever follows from a follows from the start behind them
-pub record Going (N : Net) (labels : List ℕ) (start : ℕ) (entry : List ℕ) (now : List ℕ) (a k : ℕ) : Type 0 where
+pub record Going (N : Net) (labels : List ℕ) (start : ℕ) (entry list : List ℕ) (a k : ℕ) : Type 0 where
   pub here : a < length labels
   pub number : label-of labels a < no-distance
   pub done : List ℕ
   pub long : k ≡ length done
-  pub front : now ≡ done ++ drop k entry
+  pub size : length list ≡ length entry
+  pub front : list ≡ done ++ drop k entry
   pub rest : (bs : List ℕ) → Follow N (label-of labels) a bs → Follow N (label-of labels) start (done ++ bs)
 
+-- nothing is written yet
 pub going-none : {N : Net} {labels entry : List ℕ} {a : ℕ} → a < length labels → label-of labels a < no-distance → Going N labels a entry entry a 0
-going-none h m = record { here = h; number = m; done = []; long = refl; front = refl; rest = λ bs f. f }
+going-none h m = record { here = h; number = m; done = []; long = refl; size = refl; front = refl; rest = λ bs f. f }
 
 -- a sum that is a number is what is offered
 offer-of : (next cost labels : List ℕ) (k : ℕ) {l : ℕ} → l ≡ getD cost k 0 + label-of labels (getD next k no-distance) → l < no-distance → offer next cost labels k ≡ l
@@ -139,7 +142,7 @@ module _ {next cost ending labels : List ℕ} {room : ℕ} (T : Table next cost 
       go (no d) = by (second refl d)
 
   -- on from here to an end the walk would be the first shortest, and such a walk is short
-  pub going-few : {start a k : ℕ} {entry now : List ℕ} → start < length labels → Going net labels start entry now a k → k < length labels
+  pub going-few : {start a k : ℕ} {entry list : List ℕ} → start < length labels → Going net labels start entry list a k → k < length labels
   going-few {a = a} i G =
       let r = reach (bounded T) (X .right) pick (suc (label-of labels a)) a (G .here) (omega arith) (G .number) in
       let w = follow-first (bounded T) (X .right) small keeps (G .rest (r .0) (r .1)) in
@@ -147,9 +150,9 @@ module _ {next cost ending labels : List ℕ} {room : ℕ} (T : Table next cost 
       omega (arith, length-append (G .done) (r .0), G .long)
 
   -- one step more; b is the picked arrival, as it is written and as it is used
-  pub going-more : {start a k b c : ℕ} {entry now : List ℕ} → k < length entry → Going net labels start entry now a k → getD ending a 0 ≢ 1
-      → Picked next cost labels a b → c ≡ b → Going net labels start entry (set now k b) c (k + 1)
-  going-more {a = a} {k = k} {b = b} {entry = entry} h G n q e =
+  pub going-more : {start a k b c : ℕ} {entry list : List ℕ} → k < length entry → Going net labels start entry list a k → getD ending a 0 ≢ 1
+      → Picked next cost labels a b → c ≡ b → Going net labels start entry (set list k b) c (k + 1)
+  going-more {a = a} {k = k} {b = b} {entry = entry} {list = list} h G n q e =
       let l = goes-on (G .here) (G .number) n q in
       let t = l .tight in
       rw e
@@ -158,16 +161,19 @@ module _ {next cost ending labels : List ℕ} {room : ℕ} (T : Table next cost 
         number = omega (arith, G .number);
         done = G .done ++ b ∷ [];
         long = omega (arith, G .long, length-append (G .done) (b ∷ []));
+        size = length-set list k b ∙ G .size;
         front = rw (G .front) (one-more (G .done) entry b (G .long) h);
         rest = λ bs f. rw (append-snoc (G .done) b bs) (G .rest (b ∷ bs) (go-on (l .step) t (l .smallest) f));
       })
 
-  pub going-falls : {start a k b c : ℕ} {entry now : List ℕ} → Going net labels start entry now a k → getD ending a 0 ≢ 1 → Picked next cost labels a b
+  -- each step costs something, so the label falls
+  pub going-falls : {start a k b c : ℕ} {entry list : List ℕ} → Going net labels start entry list a k → getD ending a 0 ≢ 1 → Picked next cost labels a b
       → c ≡ b → label-of labels c < label-of labels a
   going-falls G n q e = let l = goes-on (G .here) (G .number) n q in let t = l .tight in rw e (omega (arith, bounded T .positive (l .step)))
 
-  pub going-done : {start a k : ℕ} {entry now : List ℕ} → start < length labels → length labels ≤ length entry → Going net labels start entry now a k → getD ending a 0 ≡ 1
-      → Written net start (label-of labels start) entry k now × (k < length labels)
+  -- at an end what is written is the first shortest walk
+  pub going-done : {start a k : ℕ} {entry list : List ℕ} → start < length labels → length labels ≤ length entry → Going net labels start entry list a k → getD ending a 0 ≡ 1
+      → Written net start (label-of labels start) entry k list × (k < length labels)
   going-done {start} {a} i h G e =
       let f = rw append-nil at (G .rest [] (stop (record { inside = G .here; marked = e }))) in
       let k = going-few i G in (

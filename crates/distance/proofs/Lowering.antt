@@ -1,5 +1,5 @@
 -- Lowering a label to something that is offered keeps all labels above what is offered, for a lower label makes offers lower
--- (`above-set`). Relaxing, a sweep and the worklist do nothing else (`relaxed`, `sweep-more`, `kept-more`); a sweep in which nothing
+-- (`above-set`). Relaxing, a sweep and the worklist do nothing else (`relaxed`, `sweep-more`, `begun-more`, `passed-more`); a sweep in which nothing
 -- falls leaves each label the best (`swept-settled`).
 -- Assumes nothing.
 use mathlib.Core.Path.{_≡_, refl, subst, _∙_}
@@ -39,7 +39,7 @@ module _ {next cost ends : List ℕ} {room : ℕ} where
   pub kept-more : {l m k : List ℕ} → Kept next cost ends room l m → Kept next cost ends room m k → Kept next cost ends room l k
   kept-more K J = record { size = J .size ∙ K .size; keeps = λ A. J .keeps (K .keeps A) }
 
-  pub lowered-kept : {l m : List ℕ} {a v r : ℕ} → a < length l → best next cost ends room l a ≤ v → Lowered l m a v r → Kept next cost ends room l m
+  lowered-kept : {l m : List ℕ} {a v r : ℕ} → a < length l → best next cost ends room l a ≤ v → Lowered l m a v r → Kept next cost ends room l m
   lowered-kept {l} {a = a} {v = v} h o (fell e p q) = rw q (record { size = length-set l a v; keeps = above-set l a v h o (omega arith) })
   lowered-kept h o (stayed e p q) = rw q kept-none
 
@@ -90,10 +90,34 @@ module _ {next cost ends : List ℕ} {room : ℕ} where
   unfolding offer best
   blank-above B = record { above = λ a h. omega (arith, B .none a h) }
 
--- a label that was lowered to what its arrival offers by itself, or to what a step from there offers
-pub begun : {ends l m : List ℕ} {room a v r : ℕ} → a < length l → v ≡ end-offer ends room a → Lowered l m a v r → Begun ends room l m
-begun {ends} {l} {room = room} {a = a} h e w next cost = lowered-kept h (omega (arith, end-offered next cost ends room l a)) w
+lowered-size : {l m : List ℕ} {a v r : ℕ} → Lowered l m a v r → length m ≡ length l
+lowered-size {l} {a = a} {v = v} (fell e p q) = rw q (length-set l a v)
+lowered-size (stayed e p q) = rw q refl
 
+-- labels that were lowered to what arrivals offer by themselves
+pub begun : {ends l m : List ℕ} {room a v r : ℕ} → a < length l → v ≡ end-offer ends room a → Lowered l m a v r → Begun ends room l m
+begun {ends} {l} {room = room} {a = a} h e w =
+    record { size = lowered-size w; kept = λ next cost. lowered-kept h (omega (arith, end-offered next cost ends room l a)) w }
+
+pub begun-none : {ends l : List ℕ} {room : ℕ} → Begun ends room l l
+begun-none = record { size = refl; kept = λ next cost. kept-none }
+
+pub begun-more : {ends l m k : List ℕ} {room : ℕ} → Begun ends room l m → Begun ends room m k → Begun ends room l k
+begun-more K J = record { size = J .size ∙ K .size; kept = λ next cost. kept-more (K .kept next cost) (J .kept next cost) }
+
+-- labels that were lowered to what steps offer
 pub passed : {next cost l m : List ℕ} {v r : ℕ} (k : ℕ) → k / 2 < length l → v ≡ offer next cost l k → Lowered l m (k / 2) v r → Passed next cost l m
-passed {next} {cost} {l} k h e w ends room =
-    lowered-kept h (omega (arith, step-offered next cost ends room l (k / 2) k (omega arith) (omega arith))) w
+passed {next} {cost} {l} k h e w = record {
+  size = lowered-size w;
+  kept = λ ends room.
+      lowered-kept h (omega (arith, step-offered next cost ends room l (k / 2) k (omega arith) (omega arith))) w;
+}
+
+pub passed-none : {next cost l : List ℕ} → Passed next cost l l
+passed-none = record { size = refl; kept = λ ends room. kept-none }
+
+pub passed-more : {next cost l m k : List ℕ} → Passed next cost l m → Passed next cost m k → Passed next cost l k
+passed-more K J = record { size = J .size ∙ K .size; kept = λ ends room. kept-more (K .kept ends room) (J .kept ends room) }
+
+pub begun-passed : {next cost ends l m k : List ℕ} {room : ℕ} → Begun ends room l m → Passed next cost m k → Kept next cost ends room l k
+begun-passed {next} {cost} {ends} {room = room} K J = kept-more (K .kept next cost) (J .kept ends room)

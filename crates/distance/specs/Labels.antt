@@ -55,13 +55,15 @@ pub record Kept (next cost ends : List ℕ) (room : ℕ) (before after : List �
   pub size : length after ≡ length before
   pub keeps : Above next cost ends room before → Above next cost ends room after
 
--- the same, where only steps offered something
-abbrev pub Passed : List ℕ → List ℕ → List ℕ → List ℕ → Type 0
-Passed next cost before after = (ends : List ℕ) (room : ℕ) → Kept next cost ends room before after
+-- the same, where steps offered it, so that it does not matter where a walk may end
+pub record Passed (next cost before after : List ℕ) : Type 0 where
+  pub size : length after ≡ length before
+  pub kept : (ends : List ℕ) (room : ℕ) → Kept next cost ends room before after
 
--- the same, where only arrivals by themselves offered something
-abbrev pub Begun : List ℕ → ℕ → List ℕ → List ℕ → Type 0
-Begun ends room before after = (next cost : List ℕ) → Kept next cost ends room before after
+-- the same, where arrivals by themselves offered it, so that it does not matter what the steps are
+pub record Begun (ends : List ℕ) (room : ℕ) (before after : List ℕ) : Type 0 where
+  pub size : length after ≡ length before
+  pub kept : (next cost : List ℕ) → Kept next cost ends room before after
 
 -- the arrival a was given the best label that it is offered; r is 1 where its label fell, and 0 where nothing changed
 pub record Relaxed (next cost ends : List ℕ) (room : ℕ) (before after : List ℕ) (a r : ℕ) : Type 0 where

@@ -13,11 +13,12 @@ fn pick(next: &[u32], cost: &[u32], labels: &[u32], a: usize) -> u32
     requires { ⌜ (a < length (now labels)) × (2 * length (now labels) ≤ length (now next)) × (2 * length (now labels) ≤ length (now cost)) ⌝ }
     ensures { λ r. ⌜ Picked (now (next .entry)) (now (cost .entry)) (now (labels .entry)) a r ⌝ }
 {
-    let k = 2 * a;
-    if offer(next, cost, labels, k) == labels[a] {
-        return next[k];
+    let first = 2 * a;
+    let second = 2 * a + 1;
+    if offer(next, cost, labels, first) == labels[a] {
+        return next[first];
     }
-    next[k + 1]
+    next[second]
 }
 
 // The first shortest walk from an arrival that has one, into the front of walk, and how many steps it has.

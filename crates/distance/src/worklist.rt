@@ -11,7 +11,7 @@ use crate::label::wide;
 
 // The table of work. Places that lead to the same arrival form a chain: at FIRST stands for each arrival one more than the first such
 // place, at CHAIN for each place one more than the next. The queue is a ring of 2,048 arrivals; behind it stands which of them wait in
-// it, and its front and its back.
+// it, and its front and its back. Only where all 2,048 arrivals are ends is the ring ever full; it then looks empty, and is not needed.
 const CHAIN: usize = 0;
 
 const FIRST: usize = 4096;

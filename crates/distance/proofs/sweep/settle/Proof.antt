@@ -1,22 +1,20 @@
 -- `sweep::settle` meets its contract. The loop's invariant: no label is below what is offered. The measure is the sum of the
 -- labels, which each sweep but the last makes less.
 -- Assumes nothing.
-use mathlib.Core.Path.{_≡_}
 use borrow.Author.Needs.{needs}
-use lib.ListN.{length}
-use Rattle.distance.specs.Labels.{sum, Above}
-use Rattle.distance.proofs.Lowering.{swept-settled}
+use Rattle.distance.specs.Labels.{sum, Kept}
+use Rattle.distance.proofs.Lowering.{kept-none, kept-more, swept-settled}
 use Rattle.distance.proofs.sweep.settle.Statement.{statement}
 use Rattle.distance.proofs.sweep.settle.Tie as tie
 
 abbrev Inv-loop : tie.InvT-loop
-Inv-loop next cost ends room labels₀ labels = (length labels ≡ length labels₀) × Above next cost ends room labels
+Inv-loop next cost ends room labels₀ labels = Kept next cost ends room labels₀ labels
 
 abbrev μ-loop : tie.MeasureT-loop
 μ-loop next cost ends room labels₀ labels = sum labels
 
 loop-holds : tie.Need-loop-holds Inv-loop μ-loop
-loop-holds c = search needs
+loop-holds c = kept-none
 
 sweep-requires : tie.Need-sweep-requires Inv-loop μ-loop
 sweep-requires c κs = search needs
@@ -28,7 +26,7 @@ returns : tie.Need-returns Inv-loop μ-loop
 returns c =
     let call = c .before .before .before in
     let head = call .before .before in
-    swept-settled (head .loop .inv .1) (call .sweep .ensures) (c .if1 .taken)
+    swept-settled (head .loop .inv .keeps (head .before .before .before .before .before .pre .1)) (call .sweep .ensures) (c .if1 .taken)
 
 loop-less : tie.Need-loop-less Inv-loop μ-loop
 loop-less c = search needs
@@ -37,7 +35,7 @@ loop-again : tie.Need-loop-again Inv-loop μ-loop
 loop-again c =
     let call = c .before .before .before in
     let head = call .before .before in
-    (search needs, call .sweep .ensures .kept .keeps (head .loop .inv .1))
+    kept-more (head .loop .inv) (call .sweep .ensures .kept)
 
 pub settle-spec : {M : Type 1} → statement M
 settle-spec =

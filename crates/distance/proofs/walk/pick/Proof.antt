@@ -5,8 +5,14 @@ use Rattle.distance.proofs.Following.{pick-first, pick-second}
 use Rattle.distance.proofs.walk.pick.Statement.{statement}
 use Rattle.distance.proofs.walk.pick.Tie as tie
 
-mul-k : tie.Need-mul-k
-mul-k c = search needs
+mul-first : tie.Need-mul-first
+mul-first c = search needs
+
+mul-second : tie.Need-mul-second
+mul-second c = search needs
+
+add-second : tie.Need-add-second
+add-second c = search needs
 
 offer-requires : tie.Need-offer-requires
 offer-requires c κs = search needs
@@ -26,9 +32,6 @@ shared-slice-read-result c = search needs
 returns : tie.Need-returns
 returns c = pick-first _ _ _ _ _ (search needs) (search needs) (c .before .before .before .offer .ensures) (c .before .if1 .taken)
 
-add-result : tie.Need-add-result
-add-result c = search needs
-
 mul-result-2 : tie.Need-mul-result-2
 mul-result-2 c = search needs
 
@@ -42,14 +45,15 @@ pub pick-spec : {M : Type 1} → statement M
 pick-spec =
     tie.close
     (tie.spec
-    mul-k
+    mul-first
+    mul-second
+    add-second
     offer-requires
     mul-if1
     shared-slice-read-if1
     mul-result
     shared-slice-read-result
     returns
-    add-result
     mul-result-2
     shared-slice-read-result-2
     returns-2)

@@ -1,21 +1,19 @@
 -- `worklist::chase` meets its contract. The loop's invariant: labels stay above what is offered. The measure is the budget.
 -- Assumes nothing.
-use mathlib.Core.Path.{_≡_, refl}
 use borrow.Author.Needs.{needs}
-use lib.ListN.{length}
 use Rattle.distance.specs.Labels.{Passed}
-use Rattle.distance.proofs.Lowering.{kept-none, kept-more}
+use Rattle.distance.proofs.Lowering.{passed-none, passed-more}
 use Rattle.distance.proofs.worklist.chase.Statement.{statement}
 use Rattle.distance.proofs.worklist.chase.Tie as tie
 
 abbrev Inv-loop : tie.InvT-loop
-Inv-loop next cost labels₀ work₀ budget₀ labels work budget = (length labels ≡ length labels₀) × Passed next cost labels₀ labels
+Inv-loop next cost labels₀ work₀ budget₀ labels work budget = Passed next cost labels₀ labels
 
 abbrev μ-loop : tie.MeasureT-loop
 μ-loop next cost labels₀ work₀ budget₀ labels work budget = budget
 
 loop-holds : tie.Need-loop-holds Inv-loop μ-loop
-loop-holds c = (refl, λ ends room. kept-none)
+loop-holds c = passed-none
 
 next-waiting-requires : tie.Need-next-waiting-requires Inv-loop μ-loop
 next-waiting-requires c κs = search needs
@@ -39,13 +37,13 @@ loop-again : tie.Need-loop-again Inv-loop μ-loop
 loop-again c =
     let call = c .before .before in
     let head = call .before .before .before .before .before .before .before in
-    (search needs, λ ends room. kept-more (head .loop .inv .1 ends room) (call .pass-back .ensures ends room))
+    passed-more (head .loop .inv) (call .pass-back .ensures)
 
 same-length-2 : tie.Need-same-length-2 Inv-loop μ-loop
 same-length-2 c = search needs
 
 returns-2 : tie.Need-returns-2 Inv-loop μ-loop
-returns-2 c = c .before .loop .inv .1
+returns-2 c = c .before .loop .inv
 
 pub chase-spec : {M : Type 1} → statement M
 chase-spec =

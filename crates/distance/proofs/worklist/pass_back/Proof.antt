@@ -1,15 +1,13 @@
 -- `worklist::pass_back` meets its contract. The loop's invariant: labels stay above what is offered. The measure is the count.
 -- Assumes nothing.
-use mathlib.Core.Path.{_≡_, refl}
 use borrow.Author.Needs.{needs}
-use lib.ListN.{length}
 use Rattle.distance.specs.Labels.{Passed}
-use Rattle.distance.proofs.Lowering.{kept-none, kept-more}
+use Rattle.distance.proofs.Lowering.{passed-none, passed-more}
 use Rattle.distance.proofs.worklist.pass_back.Statement.{statement}
 use Rattle.distance.proofs.worklist.pass_back.Tie as tie
 
 abbrev Inv-loop : tie.InvT-loop
-Inv-loop next cost labels₀ work₀ b link₀ left₀ labels work link left = (length labels ≡ length labels₀) × Passed next cost labels₀ labels
+Inv-loop next cost labels₀ work₀ b link₀ left₀ labels work link left = Passed next cost labels₀ labels
 
 abbrev μ-loop : tie.MeasureT-loop
 μ-loop next cost labels₀ work₀ b link₀ left₀ labels work link left = left
@@ -24,13 +22,13 @@ peek-requires : tie.Need-peek-requires Inv-loop μ-loop
 peek-requires c κs = search needs
 
 loop-holds : tie.Need-loop-holds Inv-loop μ-loop
-loop-holds c = (refl, λ ends room. kept-none)
+loop-holds c = passed-none
 
 same-length : tie.Need-same-length Inv-loop μ-loop
 same-length c = search needs
 
 returns : tie.Need-returns Inv-loop μ-loop
-returns c = c .before .before .loop .inv .1
+returns c = c .before .before .loop .inv
 
 sub-k : tie.Need-sub-k Inv-loop μ-loop
 sub-k c = search needs
@@ -57,13 +55,13 @@ loop-again : tie.Need-loop-again Inv-loop μ-loop
 loop-again c =
     let call = c .before .before .before .before .before in
     let head = call .before .before .before .before .before in
-    (search needs, λ ends room. kept-more (head .loop .inv .1 ends room) (call .pass-place .ensures ends room))
+    passed-more (head .loop .inv) (call .pass-place .ensures)
 
 same-length-2 : tie.Need-same-length-2 Inv-loop μ-loop
 same-length-2 c = search needs
 
 returns-2 : tie.Need-returns-2 Inv-loop μ-loop
-returns-2 c = c .before .loop .inv .1
+returns-2 c = c .before .loop .inv
 
 pub pass-back-spec : {M : Type 1} → statement M
 pass-back-spec =

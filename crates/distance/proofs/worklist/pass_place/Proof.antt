@@ -2,7 +2,7 @@
 -- Assumes nothing.
 use native.Mathlib.Omega.{arith}
 use borrow.Author.Needs.{needs}
-use Rattle.distance.proofs.Lowering.{kept-none, passed}
+use Rattle.distance.proofs.Lowering.{passed, passed-none}
 use Rattle.distance.proofs.worklist.pass_place.Statement.{statement}
 use Rattle.distance.proofs.worklist.pass_place.Tie as tie
 
@@ -10,7 +10,7 @@ wide-requires : tie.Need-wide-requires
 wide-requires c κs = search needs
 
 returns : tie.Need-returns
-returns c = λ ends room. kept-none
+returns c = passed-none
 
 offer-requires : tie.Need-offer-requires
 offer-requires c κs = search needs

@@ -1,7 +1,7 @@
 -- `worklist::run_down` meets its contract.
 -- Assumes nothing.
 use borrow.Author.Needs.{needs}
-use Rattle.distance.proofs.Lowering.{kept-more}
+use Rattle.distance.proofs.Lowering.{begun-passed}
 use Rattle.distance.proofs.worklist.run_down.Statement.{statement}
 use Rattle.distance.proofs.worklist.run_down.Tie as tie
 
@@ -20,7 +20,7 @@ same-length c = search needs
 returns : tie.Need-returns
 returns c =
     let call = c .before .before in
-    kept-more (call .before .before .before .before .before .begin .ensures _ _) (call .chase .ensures _ _)
+    begun-passed (call .before .before .before .before .before .begin .ensures) (call .chase .ensures)
 
 pub run-down-spec : {M : Type 1} → statement M
 run-down-spec =
