@@ -1,5 +1,5 @@
--- What this crate says beyond the rules: the steps of a trip as a table, the trips that share one, the step over one section, the turns
--- that a pull-out serves, and lists of arrivals each of which leads to the next.
+-- What this crate says beyond the rules: the steps of a trip as a table, which turns a pull-out serves, the step over one section, the mark of
+-- an end, and lists of arrivals each of which begins where the one before has come.
 pub mod StepTable
 pub mod Served
 pub mod StepOver

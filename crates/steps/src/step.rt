@@ -79,8 +79,9 @@ pub(crate) fn step_over(
     if !is_forbidden(table, p, a / 2, s) {
         return Step { next, cost: whole };
     }
+    let length = train.length;
     if served[wide(p)] == 1 {
-        let cost = train.length + whole;
+        let cost = length + whole;
         return Step { next, cost };
     }
     none

@@ -55,15 +55,15 @@ element-copy-out-if4 c =
 
 add-cost : tie.Need-add-cost
 add-cost c =
-    let known = c .before .before .before .before .before .before .before .before .before .before .before .before .before .before .pre in
-    omega (arith, cost-low (known .0) (known .1) (is-section (known .0) (known .1) (c .before .before .before .before .before .before .before .before .before .before .before .has-section .ensures) (c .before .before .before .before .before .before .before .before .before .before .if1 .left)) (c .before .before .before .before .before .before .before .section-number .ensures))
+    let known = c .before .before .before .before .before .before .before .before .before .before .before .before .before .pre in
+    omega (arith, cost-low (known .0) (known .1) (is-section (known .0) (known .1) (c .before .before .before .before .before .before .before .before .before .before .has-section .ensures) (c .before .before .before .before .before .before .before .before .before .if1 .left)) (c .before .before .before .before .before .before .section-number .ensures))
 
 returns-4 : tie.Need-returns-4
 returns-4 c =
-    let known = c .before .before .before .before .before .before .before .before .before .before .before .before .before .before .pre in
-    λ v e g. pulls-out (known .0) (known .1) v e g (is-section (known .0) (known .1) (c .before .before .before .before .before .before .before .before .before .before .before .has-section .ensures) (c .before .before .before .before .before .before .before .before .before .before .if1 .left)) (c .before .before .before .before .before .before .arrival-over .ensures)
-    (is-entered (known .0) (known .1) (c .before .before .before .before .before .before .before .before .before .may-step .ensures) (c .before .before .before .before .before .before .before .before .if2 .left)) (c .before .before .before .before .before .is-forbidden .ensures) (c .before .before .before .before .if3 .left)
-    (rw (c .before .before .before .wide .ensures .0) at (c .before .if4 .taken)) (c .before .before .before .before .before .before .before .section-number .ensures)
+    let known = c .before .before .before .before .before .before .before .before .before .before .before .before .before .pre in
+    λ v e g. pulls-out (known .0) (known .1) v e g (is-section (known .0) (known .1) (c .before .before .before .before .before .before .before .before .before .before .has-section .ensures) (c .before .before .before .before .before .before .before .before .before .if1 .left)) (c .before .before .before .before .before .arrival-over .ensures)
+    (is-entered (known .0) (known .1) (c .before .before .before .before .before .before .before .before .may-step .ensures) (c .before .before .before .before .before .before .before .if2 .left)) (c .before .before .before .before .is-forbidden .ensures) (c .before .before .before .if3 .left)
+    (rw (c .before .before .wide .ensures .0) at (c .if4 .taken)) (c .before .before .before .before .before .before .section-number .ensures)
 
 returns-5 : tie.Need-returns-5
 returns-5 c =
