@@ -3,12 +3,17 @@
 use mathlib.Core.Path.{_≡_, refl}
 use mathlib.Core.List.{List}
 use Prim.Native.Nat.{ℕ}
+use Rattle.rules.specs.Query.{Query}
+use Rattle.rules.specs.Search as rules
 use Rattle.rules.specs.PullAnswer.{Reversal, PullAnswer}
 use Rattle.pullout.specs.declared.Pulled.{Pulled}
 use Rattle.pullout.specs.declared.Pulled.the-variants.{Found, Refused}
 use Rattle.pullout.specs.Answer.{numbers-of}
+use Rattle.search.specs.declared.Routed.{Routed}
+use Rattle.search.specs.Answer.{result-of}
+use Rattle.finder.specs.declared.Answer.{Answer}
 use Rattle.finder.specs.declared.Pull.{Pull}
-use Rattle.finder.specs.Numbers.{pull-answer, pulledOf}
+use Rattle.finder.specs.Numbers.{route-answer, resultOf, pull-answer, pulledOf}
 
 same-numbers : (a : Pulled) (list : List ℕ) → pulledOf (pull-answer a) list ≡ numbers-of a list
 same-numbers (Found n) list = refl
@@ -17,3 +22,7 @@ same-numbers (Refused n p) list = refl
 pub pull-carried : (v : Reversal) (entry exit : List ℕ) (a : Pulled) {r : Pull} → r ≡ pull-answer a → PullAnswer v entry (numbers-of a exit)
     → PullAnswer v entry (pulledOf r exit)
 pull-carried v entry exit a e h = rw (e, same-numbers a exit) h
+
+pub route-carried : (q : Query) (route labels : List ℕ) (a : Routed) {r : Answer} {route-after labels-after : List ℕ} → r ≡ route-answer a
+    → rules.Answer q route labels (result-of a route-after labels-after) → rules.Answer q route labels (resultOf r route-after labels-after)
+route-carried q route labels a e h = rw e h

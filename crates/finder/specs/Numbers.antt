@@ -2,12 +2,14 @@
 -- Assumes nothing.
 use mathlib.Core.List.{List}
 use Prim.Native.Nat.{ℕ}
-use Rattle.rules.specs.Search.{Numbers, refusal}
+use Rattle.rules.specs.Search.{Numbers, refusal, Result}
 use Rattle.rules.specs.PullAnswer as rules
 use Rattle.plan.specs.declared.Checked.{Checked}
 use Rattle.plan.specs.Answer.{verdict-of}
 use Rattle.pullout.specs.declared.Pulled.{Pulled}
 use Rattle.pullout.specs.declared.Pulled.the-variants.{Found, Refused}
+use Rattle.search.specs.declared.Routed.{Routed}
+use Rattle.search.specs.Answer.{numbers-of}
 use Rattle.finder.specs.declared.Answer.{Answer}
 use Rattle.finder.specs.declared.Pull.{Pull}
 
@@ -18,6 +20,18 @@ answerOf n = record { refusal = n .refusal; place = n .place; total = n .total; 
 -- what stands for the answer of a check: its verdict's number and place, and zeros
 abbrev pub check-answer : Checked → Answer
 check-answer c = answerOf (refusal (verdict-of c))
+
+-- what stands for the answer of a search
+abbrev pub route-answer : Routed → Answer
+route-answer r = answerOf (numbers-of r)
+
+-- the struct's numbers with the two lent buffers at exit, as the rules have them
+abbrev pub resultOf : Answer → List ℕ → List ℕ → Result
+resultOf r route labels = record {
+  numbers = record { refusal = r .refusal; place = r .place; total = r .total; reversals = r .reversals; steps = r .steps };
+  route = route;
+  labels = labels;
+}
 
 -- what stands for the answer of a pull-out: its count, or a refusal's number and place
 abbrev pub pull-answer : Pulled → Pull

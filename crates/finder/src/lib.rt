@@ -1,13 +1,15 @@
 // The C ABI: thin entries over the crates below, on numbers and slices. include/finder.h declares them.
 use plan::Checked;
 use pullout::Pulled;
+use search::Routed;
 ghost use mathlib.Core.Path.{_≡_};
 ghost use Rattle.rules.specs.Plan.{plan-of};
 ghost use Rattle.rules.specs.PlanCheck.{plan-checks};
 ghost use Rattle.rules.specs.Refusals.{verdict};
-ghost use Rattle.rules.specs.Search.{refusal};
+ghost use Rattle.rules.specs.Query.{query-of};
+ghost use Rattle.rules.specs.Search as rules;
 ghost use Rattle.rules.specs.PullAnswer.{reversal-of, PullAnswer};
-ghost use Rattle.finder.specs.Numbers.{answerOf, check-answer, pulledOf, pull-answer};
+ghost use Rattle.finder.specs.Numbers.{answerOf, check-answer, pulledOf, pull-answer, resultOf, route-answer};
 
 // The five numbers of an answer.
 #[repr(C)]
@@ -53,9 +55,62 @@ fn checked(answer: Checked) -> Answer
 #[no_mangle]
 pub extern "C" fn finder_check_plan(points: u32, sections: &[u32], turns: &[u32]) -> Answer
     ensures { λ r.
-        ⌜ r ≡ answerOf (refusal (verdict (plan-checks (plan-of points (now (sections .entry)) (now (turns .entry)))))) ⌝ }
+        ⌜ r ≡ answerOf (rules.refusal (verdict (plan-checks (plan-of points (now (sections .entry)) (now (turns .entry)))))) ⌝ }
 {
     checked(plan::check_plan(points, sections, turns))
+}
+
+// The numbers of a search.
+fn routed(answer: Routed) -> Answer
+    ensures { λ r. ⌜ r ≡ route-answer answer ⌝ }
+{
+    match answer {
+        Routed::Found(total, reversals, steps) => Answer {
+            refusal: 0,
+            place: 0,
+            total: total,
+            reversals: reversals,
+            steps: steps,
+        },
+        Routed::Refused(number, at) => Answer {
+            refusal: number,
+            place: at,
+            total: 0,
+            reversals: 0,
+            steps: 0,
+        },
+    }
+}
+
+// Refusals 1 to 14; the first shortest walk into the front of the route buffer, and all labels.
+#[no_mangle]
+pub extern "C" fn finder_search(
+    points: u32,
+    sections: &[u32],
+    turns: &[u32],
+    length: u32,
+    start: u32,
+    leave: u32,
+    finish: u32,
+    enter: u32,
+    route: &mut [u32],
+    labels: &mut [u32],
+) -> Answer
+    ensures { λ r.
+        ⌜ rules.Answer (query-of (plan-of points (now (sections .entry)) (now (turns .entry))) length start leave finish enter) (now (route .entry)) (now (labels .entry)) (resultOf r (now (route .exit)) (now (labels .exit))) ⌝ }
+{
+    routed(search::search(
+        points,
+        sections,
+        turns,
+        length,
+        start,
+        leave,
+        finish,
+        enter,
+        route,
+        labels,
+    ))
 }
 
 // The numbers of a pull-out.
