@@ -2,7 +2,7 @@
 -- shortest walks, the same first of them and the same remaining distances (`same-first`, `same-remaining`, `same-none`).
 -- Assumes nothing.
 use mathlib.Core.Path.{_≡_, _∙_}
-use mathlib.Core.List.{List, [], _∷_}
+use mathlib.Core.List.{List}
 use Prim.Native.Nat.{ℕ}
 use native.Mathlib.Omega.{arith}
 use Rattle.rules.specs.Net.{Net, Walk, here, onward, distance, Shortest, FirstShortest, NoWalk, Remaining, no-walk, by-walk}

@@ -11,6 +11,7 @@ pub mod Alike
 pub mod Sound
 pub mod Trips
 pub mod SearchAnswers
+pub mod SearchDemands
 pub mod PullAnswers
 pub mod SheetAnswers
 pub mod Ways

@@ -1,22 +1,21 @@
 -- The labels of a table and the walk over it solve the query whose steps the table lists (`solved-query`).
 -- Assumes nothing.
-use mathlib.Core.Path.{_≡_, refl, sym, _∙_}
+use mathlib.Core.Path.{_≡_, _∙_}
 use mathlib.Core.Logic.{_≢_}
-use mathlib.Core.List.{List, _++_}
+use mathlib.Core.List.{List}
 use Prim.Native.Nat.{ℕ, _≤_, _<_}
 use native.Mathlib.Omega.{arith}
 use lib.ListN.{length, getD, drop, length-append}
 use lib.Seq.{take-append-seam}
 use Rattle.rules.specs.Plan.{arrivals}
 use Rattle.rules.specs.Query.{Query, start-arrival, finish-room}
-use Rattle.rules.specs.Net.{no-distance, Net, FirstShortest}
-use Rattle.rules.specs.Trip.{trip-of}
+use Rattle.rules.specs.Net.{no-distance, Net}
 use Rattle.rules.proofs.Alike.{Within, same-remaining, same-first}
 use Rattle.rules.proofs.Sound.{Sound}
 use Rattle.rules.proofs.Trips.{sound-trip}
 use Rattle.distance.specs.Table.{table-net, Table}
 use Rattle.distance.specs.Answer.{Labels, Written}
-use Rattle.search.specs.Solved.{Listing, Known, Chosen, SolvedOver, Solved}
+use Rattle.search.specs.Solved.{Listing, Known, SolvedOver, Solved}
 use Rattle.distance.proofs.Sums.{any-default}
 use Rattle.search.proofs.StepNet.{table-to-trip, trip-to-table, trip-table}
 

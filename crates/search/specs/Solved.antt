@@ -1,8 +1,7 @@
 -- What the inner functions of the search hand on: tables of steps, labels and a walk.
 -- Assumes nothing.
-use mathlib.Core.Path.{_≡_}
 use mathlib.Core.List.{List}
-use Prim.Native.Nat.{ℕ, _*_, _≤_, _<_}
+use Prim.Native.Nat.{ℕ, _≤_, _<_}
 use lib.ListN.{length, getD, take}
 use Rattle.rules.specs.Plan.{arrivals}
 use Rattle.rules.specs.Query.{Query, start-arrival}

@@ -1,4 +1,15 @@
-// The search.
+// The search: refusals 1 to 14, and the first shortest walk with every remaining distance.
+//
+// What is proved of `search`, for all numbers and all lengths of the tables and buffers that it is lent (the names are of theorems
+// about its contract, in crates/rules/proofs/SearchDemands.antt and SearchAnswers.antt):
+// - It ends with an answer, and there is one answer that its contract allows, both buffers included (answer-unique).
+// - A walk handed out is admissible (handed-out-walk), no admissible walk is shorter (handed-out-shortest), and of the shortest ones it
+//   is the first by section numbers (handed-out-first). Its total, its reversals and its steps are those of the list in the route
+//   buffer (handed-out-numbers).
+// - Number 12 is given exactly when none of 1 to 11 applies and there is no admissible walk (twelve-none, none-twelve); 13 never
+//   (never-13).
+// - With a walk and with number 12 each label is the remaining distance of its arrival, or "none" (labels-right). All else that was
+//   lent is as it was: the rest of the route buffer with a walk, the whole of it with 12, and both buffers with every other refusal.
 mod solve;
 mod write;
 
@@ -15,6 +26,7 @@ use plan::Checked;
 use plan::check_plan;
 use plan::slots::index;
 use pullout::turn_table::turn_table;
+use rules::NO_DISTANCE;
 use solve::solve;
 use train::check_train;
 use write::write_answer;
@@ -48,7 +60,7 @@ fn find_route(
 {
     let slots = index(sections);
     let table = turn_table(sections, turns);
-    let mut known = [4294967295; 2048];
+    let mut known = [NO_DISTANCE; 2048];
     let mut walk = [0; 2048];
     let steps = solve(
         sections,

@@ -10,6 +10,7 @@ ghost use Rattle.search.specs.Solved.{Listing, SolvedOver, Solved};
 use crate::Asked;
 use distance::first_walk;
 use distance::remaining;
+use rules::NO_DISTANCE;
 use steps::ends::fill_ends;
 use steps::fill_steps;
 use train::place::start_arrival;
@@ -30,7 +31,7 @@ fn solve_over(
     ensures { λ r. ⌜ SolvedOver (table-net (now (next .entry)) (now (cost .entry)) (now (ends .entry)) room count) count from (now (known .exit)) (now (walk .exit)) r ⌝ }
 {
     remaining(next, cost, ends, room, count, known);
-    if known[from] == 4294967295 {
+    if known[from] == NO_DISTANCE {
         return 0;
     }
     first_walk(next, cost, ends, room, count, known, from, walk)
@@ -77,7 +78,7 @@ pub fn solve(
     requires { ⌜ Sound (query-asked asked (now sections) (now turns)) × Tables (now sections) (now turns) (now slots) (now table) × (2048 ≤ length (now known)) × (2048 ≤ length (now walk)) × Blank 2048 (now known) ⌝ }
     ensures { λ r. ⌜ Solved (query-asked asked (now (sections .entry)) (now (turns .entry))) (now (known .exit)) (now (walk .exit)) r ⌝ }
 {
-    let mut next = [4294967295; 4096];
+    let mut next = [NO_DISTANCE; 4096];
     let mut cost = [0; 4096];
     let mut ends = [0; 2048];
     list_steps(

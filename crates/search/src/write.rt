@@ -11,8 +11,8 @@ ghost use Rattle.search.specs.Solved.{Solved};
 ghost use Rattle.search.specs.Answer.{result-of};
 use crate::Asked;
 use crate::Routed;
-use plan::read::wide;
 use pullout::copy::copy_front;
+use rules::NO_DISTANCE;
 use steps::reversals::count_reversals;
 use train::place::first_distance;
 use train::place::start_arrival;
@@ -60,9 +60,9 @@ pub fn write_answer(
     ensures { λ r. ⌜ Answer (query-asked asked (now (sections .entry)) (now (turns .entry))) (now (route .entry)) (now (labels .entry)) (result-of r (now (route .exit)) (now (labels .exit))) ⌝ }
 {
     let from = start_arrival(asked.start, asked.leave);
-    if known[from] == 4294967295 {
-        let count = labels.len();
-        copy_front(known, labels, count);
+    if known[from] == NO_DISTANCE {
+        let all = labels.len();
+        copy_front(known, labels, all);
         return Routed::Refused(12, 0);
     }
     write_walk(

@@ -11,61 +11,44 @@ use Rattle.search.proofs.Answering.{plan-accepted}
 use borrow.Author.Needs.{needs}
 use Rattle.search.proofs.find_route.Statement.{statement}
 use Rattle.search.proofs.find_route.Tie as tie
-use Rattle.search.proofs.find_route.Reads as reads
-use Rattle.search.proofs.find_route.Lts as lts
-use Rattle.plan.proofs.slots.index.Reads as index-reads
-use Rattle.pullout.proofs.turn_table.turn_table.Reads as turn-table-reads
-use Rattle.search.proofs.solve.solve.Reads as solve-reads
-use Rattle.search.proofs.write.write_answer.Reads as write-answer-reads
 
--- src/lib.rt:50:17
 index-requires : tie.Need-index-requires
 index-requires c κs =
     let s = c .before .before .before .before in
     (plan-joined (plan-of (s .args .asked .points) (s .args .sections .now) (s .args .turns .now)) (plan-accepted (query-asked (s .args .asked) (s .args .sections .now) (s .args .turns .now)) (length (s .args .labels .now)) (s .pre)), plan-three (plan-of (s .args .asked .points) (s .args .sections .now) (s .args .turns .now)) (plan-accepted (query-asked (s .args .asked) (s .args .sections .now) (s .args .turns .now)) (length (s .args .labels .now)) (s .pre)))
 
--- src/lib.rt:51:17
 turn-table-requires : tie.Need-turn-table-requires
 turn-table-requires c κs =
     let s = c .before .before .before .before .before in
     plan-turned (plan-of (s .args .asked .points) (s .args .sections .now) (s .args .turns .now)) (plan-accepted (query-asked (s .args .asked) (s .args .sections .now) (s .args .turns .now)) (length (s .args .labels .now)) (s .pre))
 
--- src/lib.rt:54:63
 slice-aggregate-solve : tie.Need-slice-aggregate-solve
 slice-aggregate-solve c = search needs
 
--- src/lib.rt:54:75
 slice-aggregate-solve-2 : tie.Need-slice-aggregate-solve-2
 slice-aggregate-solve-2 c = search needs
 
--- src/lib.rt:54:9
 solve-requires : tie.Need-solve-requires
 solve-requires c κs =
     let s = c .before .before .before .before .before .before .before .before .before .before in
     let sections = s .args .sections .now in
     (sound (query-asked (s .args .asked) (s .args .sections .now) (s .args .turns .now)) (length (s .args .labels .now)) (s .pre), record { checked = record { points = s .args .asked .points; passes = (plan-accepted (query-asked (s .args .asked) (s .args .sections .now) (s .args .turns .now)) (length (s .args .labels .now)) (s .pre)) }; slotted = c .before .before .before .before .before .index .ensures; turned = c .before .before .before .before .turn-table .ensures }, search needs, search needs, blank-new 2048 2048 (omega arith))
 
--- src/lib.rt:55:50
 slice-aggregate-write-answer : tie.Need-slice-aggregate-write-answer
 slice-aggregate-write-answer c = search needs
 
--- src/lib.rt:55:58
 slice-aggregate-write-answer-2 : tie.Need-slice-aggregate-write-answer-2
 slice-aggregate-write-answer-2 c = search needs
 
--- src/lib.rt:55:5
 write-answer-requires : tie.Need-write-answer-requires
 write-answer-requires c κs = search needs
 
--- src/lib.rt:40:1
 same-length : tie.Need-same-length
 same-length c = search needs
 
--- src/lib.rt:40:1
 same-length-2 : tie.Need-same-length-2
 same-length-2 c = search needs
 
--- src/lib.rt:40:1
 returns : tie.Need-returns
 returns c = search needs
 

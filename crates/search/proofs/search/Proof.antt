@@ -8,44 +8,32 @@ use Rattle.search.proofs.Refusing.{plan-refused}
 use borrow.Author.Needs.{needs}
 use Rattle.search.proofs.search.Statement.{statement}
 use Rattle.search.proofs.search.Tie as tie
-use Rattle.search.proofs.search.Reads as reads
-use Rattle.search.proofs.search.Lts as lts
-use Rattle.plan.proofs.check_plan.Reads as check-plan-reads
-use Rattle.search.proofs.search_plan.Reads as search-plan-reads
 
--- src/lib.rt:112:9
 check-plan-requires : tie.Need-check-plan-requires
 check-plan-requires c κs = search needs
 
--- src/lib.rt:114:26
 enum-known-checked : tie.Need-enum-known-checked
 enum-known-checked c = search needs
 
--- src/lib.rt:115:64
 enum-told : tie.Need-enum-told
 enum-told c = search needs
 
--- src/lib.rt:115:28
 search-plan-requires : tie.Need-search-plan-requires
 search-plan-requires c κs =
     let s = c .before .before .before .before .before .before .before .before .before in
     answer-passes (plan-checks (plan-of (s .args .points) (s .args .sections .now) (s .args .turns .now))) tt (c .before .before .before .before .check-plan .ensures) (c .before .before .enum-told .given .1)
 
--- src/lib.rt:90:1
 returns : tie.Need-returns
 returns c =
     let s = c .before .before .before .before .before .before .before .before in
     plan-refused (query-of (plan-of (s .args .points) (s .args .sections .now) (s .args .turns .now)) (s .args .length) (s .args .start) (s .args .leave) (s .args .finish) (s .args .enter)) (s .args .route .now) (s .args .labels .now) (c .before .before .before .check-plan .ensures) (c .before .checked .given .1)
 
--- src/lib.rt:90:1
 same-length : tie.Need-same-length
 same-length c = search needs
 
--- src/lib.rt:90:1
 same-length-2 : tie.Need-same-length-2
 same-length-2 c = search needs
 
--- src/lib.rt:90:1
 returns-2 : tie.Need-returns-2
 returns-2 c = search needs
 

@@ -5,54 +5,40 @@ use Rattle.search.proofs.Refusing.{train-refused, labels-refused, accep
 use borrow.Author.Needs.{needs}
 use Rattle.search.proofs.search_plan.Statement.{statement}
 use Rattle.search.proofs.search_plan.Tie as tie
-use Rattle.search.proofs.search_plan.Reads as reads
-use Rattle.search.proofs.search_plan.Lts as lts
-use Rattle.search.proofs.find_route.Reads as find-route-reads
-use Rattle.train.proofs.check_train.Reads as check-train-reads
 
--- src/lib.rt:69:9
 check-train-requires : tie.Need-check-train-requires
 check-train-requires c κs = search needs
 
--- src/lib.rt:78:26
 enum-known-checked : tie.Need-enum-known-checked
 enum-known-checked c = search needs
 
--- src/lib.rt:80:16
 enum-told : tie.Need-enum-told
 enum-told c = search needs
 
--- src/lib.rt:80:32
 mul-if1 : tie.Need-mul-if1
 mul-if1 c = search needs
 
--- src/lib.rt:81:17
 returns : tie.Need-returns
 returns c =
     let s = c .before .before .before .before .before .before .before .before in
     labels-refused (query-asked (s .args .asked) (s .args .sections .now) (s .args .turns .now)) (s .args .route .now) (s .args .labels .now) (s .pre) (c .before .before .before .check-train .ensures) (c .before .enum-told .given .1) (c .if1 .taken)
 
--- src/lib.rt:83:13
 find-route-requires : tie.Need-find-route-requires
 find-route-requires c κs =
     let s = c .before .before .before .before .before .before .before .before .before .before in
     accepted (query-asked (s .args .asked) (s .args .sections .now) (s .args .turns .now)) (s .args .route .now) (s .args .labels .now) (s .pre) (c .before .before .before .before .before .check-train .ensures) (c .before .before .before .enum-told .given .1) (c .before .before .if1 .left)
 
--- src/lib.rt:59:1
 returns-2 : tie.Need-returns-2
 returns-2 c =
     let s = c .before .before .before .before .before .before .before .before in
     train-refused (query-asked (s .args .asked) (s .args .sections .now) (s .args .turns .now)) (s .args .route .now) (s .args .labels .now) (s .pre) (c .before .before .before .check-train .ensures) (c .before .checked .given .1)
 
--- src/lib.rt:59:1
 same-length : tie.Need-same-length
 same-length c = search needs
 
--- src/lib.rt:59:1
 same-length-2 : tie.Need-same-length-2
 same-length-2 c = search needs
 
--- src/lib.rt:59:1
 returns-3 : tie.Need-returns-3
 returns-3 c = search needs
 

@@ -5,49 +5,36 @@ use Rattle.search.proofs.Solving.{no-walk-there, label-number, walk-the
 use borrow.Author.Needs.{needs}
 use Rattle.search.proofs.solve.solve_over.Statement.{statement}
 use Rattle.search.proofs.solve.solve_over.Tie as tie
-use Rattle.search.proofs.solve.solve_over.Reads as reads
-use Rattle.search.proofs.solve.solve_over.Lts as lts
-use Rattle.distance.proofs.first_walk.Reads as first-walk-reads
-use Rattle.distance.proofs.remaining.Reads as remaining-reads
 
--- src/solve.rt:31:5
 remaining-requires : tie.Need-remaining-requires
 remaining-requires c κs = search needs
 
--- src/solve.rt:32:8
 mul-if1 : tie.Need-mul-if1
 mul-if1 c = search needs
 
--- src/solve.rt:32:8
 slice-read-if1 : tie.Need-slice-read-if1
 slice-read-if1 c = search needs
 
--- src/solve.rt:33:9
 same-length : tie.Need-same-length
 same-length c = search needs
 
--- src/solve.rt:33:9
 returns : tie.Need-returns
 returns c =
     let s = c .before .before .before .before .before .before .before .before .before .before .before in
     no-walk-there (c .before .before .before .before .remaining .ensures) (s .pre .2) (s .pre .1) (c .if1 .taken)
 
--- src/solve.rt:35:5
 first-walk-requires : tie.Need-first-walk-requires
 first-walk-requires c κs =
     let s = c .before .before .before .before .before .before .before .before .before .before .before .before .before in
     let labels = c .before .before .before .before .before .before .remaining .ensures in
     (s .pre .0, labels .exact, omega (arith, s .pre .2, labels .long), s .pre .1, label-number labels (s .pre .2) (s .pre .1) (c .before .before .if1 .left) (omega (arith, c .before .before .before .slice-known4 .given (s .args .from))), s .pre .3)
 
--- src/solve.rt:18:1
 same-length-2 : tie.Need-same-length-2
 same-length-2 c = search needs
 
--- src/solve.rt:18:1
 same-length-3 : tie.Need-same-length-3
 same-length-3 c = search needs
 
--- src/solve.rt:18:1
 returns-2 : tie.Need-returns-2
 returns-2 c =
     let s = c .before .before .before .before .before .before .before .before .before .before .before .before .before .before .before .before in

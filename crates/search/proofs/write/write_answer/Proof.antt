@@ -6,57 +6,42 @@ use Rattle.search.proofs.Answering.{start-there, labels-there, no-way, 
 use borrow.Author.Needs.{needs}
 use Rattle.search.proofs.write.write_answer.Statement.{statement}
 use Rattle.search.proofs.write.write_answer.Tie as tie
-use Rattle.search.proofs.write.write_answer.Reads as reads
-use Rattle.search.proofs.write.write_answer.Lts as lts
-use Rattle.pullout.proofs.copy.copy_front.Reads as copy-front-reads
-use Rattle.search.proofs.write.write_walk.Reads as write-walk-reads
-use Rattle.train.proofs.place.start_arrival.Reads as start-arrival-reads
 
--- src/write.rt:62:9
 start-arrival-requires : tie.Need-start-arrival-requires
 start-arrival-requires c κs = search needs
 
--- src/write.rt:63:8
 mul-if1 : tie.Need-mul-if1
 mul-if1 c = search needs
 
--- src/write.rt:63:8
 shared-slice-read-if1 : tie.Need-shared-slice-read-if1
 shared-slice-read-if1 c =
     let s = c .before .before .before .before .before .before .before .before in
     rw (c .before .start-arrival .ensures) (start-there (query-asked (s .args .asked) (s .args .sections .now) (s .args .turns .now)) (s .args .labels .now) (s .pre .0) (s .pre .2))
 
--- src/write.rt:65:9
 copy-front-requires : tie.Need-copy-front-requires
 copy-front-requires c κs =
     let s = c .before .before .before .before .before .before .before .before .before .before in
     (labels-there (query-asked (s .args .asked) (s .args .sections .now) (s .args .turns .now)) (s .args .labels .now) (s .pre .0) (s .pre .2), omega arith)
 
--- src/write.rt:66:9
 same-length : tie.Need-same-length
 same-length c = search needs
 
--- src/write.rt:66:9
 returns : tie.Need-returns
 returns c =
     let s = c .before .before .before .before .before .before .before .before .before .before .before .before .before in
     rw (c .before .before .copy-front .ensures) (no-way (query-asked (s .args .asked) (s .args .sections .now) (s .args .turns .now)) (s .args .labels .now) (s .pre .0) (s .pre .2) (s .args .route .now) (rw (c .before .before .before .before .before .before .start-arrival .ensures) at (c .before .before .before .before .if1 .taken)))
 
--- src/write.rt:68:5
 write-walk-requires : tie.Need-write-walk-requires
 write-walk-requires c κs =
     let s = c .before .before .before .before .before .before .before .before .before .before .before in
     (s .pre .0, s .pre .1, s .pre .2, start-number (query-asked (s .args .asked) (s .args .sections .now) (s .args .turns .now)) (s .args .labels .now) (s .pre .0) (s .pre .2) (λ z. c .before .before .if1 .left (rw (c .before .before .before .before .start-arrival .ensures) z)))
 
--- src/write.rt:48:1
 same-length-2 : tie.Need-same-length-2
 same-length-2 c = search needs
 
--- src/write.rt:48:1
 same-length-3 : tie.Need-same-length-3
 same-length-3 c = search needs
 
--- src/write.rt:48:1
 returns-2 : tie.Need-returns-2
 returns-2 c = search needs
 

@@ -8,82 +8,62 @@ use Rattle.search.proofs.Answering.{plan-accepted, start-there, start-l
 use borrow.Author.Needs.{needs}
 use Rattle.search.proofs.write.write_walk.Statement.{statement}
 use Rattle.search.proofs.write.write_walk.Tie as tie
-use Rattle.search.proofs.write.write_walk.Reads as reads
-use Rattle.search.proofs.write.write_walk.Lts as lts
-use Rattle.pullout.proofs.copy.copy_front.Reads as copy-front-reads
-use Rattle.steps.proofs.reversals.count_reversals.Reads as count-reversals-reads
-use Rattle.train.proofs.place.first_distance.Reads as first-distance-reads
-use Rattle.train.proofs.place.start_arrival.Reads as start-arrival-reads
 
--- src/write.rt:36:9
 returns : tie.Need-returns
 returns c =
     let s = c .before .before .before .before .before .before .before in
     no-room (query-asked (s .args .asked) (s .args .sections .now) (s .args .turns .now)) (s .args .labels .now) (s .pre .0) (s .pre .2) (s .pre .3) (s .args .route .now) (c .if1 .taken)
 
--- src/write.rt:38:9
 start-arrival-requires : tie.Need-start-arrival-requires
 start-arrival-requires c κs = search needs
 
--- src/write.rt:39:17
 first-distance-requires : tie.Need-first-distance-requires
 first-distance-requires c κs = search needs
 
--- src/write.rt:39:70
 mul-total : tie.Need-mul-total
 mul-total c = search needs
 
--- src/write.rt:39:70
 shared-slice-read-total : tie.Need-shared-slice-read-total
 shared-slice-read-total c =
     let s = c .before .before .before .before .before .before .before .before .before .before in
     rw (c .before .before .start-arrival .ensures) (start-there (query-asked (s .args .asked) (s .args .sections .now) (s .args .turns .now)) (s .args .labels .now) (s .pre .0) (s .pre .2))
 
--- src/write.rt:39:17
 add-total : tie.Need-add-total
 add-total c =
     let s = c .before .before .before .before .before .before .before .before .before .before in
     rw (c .before .first-distance .ensures, c .before .before .start-arrival .ensures) (omega (arith, total-fits (query-asked (s .args .asked) (s .args .sections .now) (s .args .turns .now)) (s .args .labels .now) (s .pre .0) (s .pre .2) (s .pre .3)))
 
--- src/write.rt:40:61
 cast-count-reversals : tie.Need-cast-count-reversals
 cast-count-reversals c =
     let s = c .before .before .before .before .before .before .before .before .before .before in
     rw (c .before .before .start-arrival .ensures) (omega (arith, start-low (query-asked (s .args .asked) (s .args .sections .now) (s .args .turns .now)) (s .args .labels .now) (s .pre .0) (s .pre .2)))
 
--- src/write.rt:40:9
 count-reversals-requires : tie.Need-count-reversals-requires
 count-reversals-requires c κs =
     let s = c .before .before .before .before .before .before .before .before .before .before in
     (record { points = s .args .asked .points; passes = plan-accepted (query-asked (s .args .asked) (s .args .sections .now) (s .args .turns .now)) (length (s .args .labels .now)) (s .pre .0) }, s .pre .1, walk-held (query-asked (s .args .asked) (s .args .sections .now) (s .args .turns .now)) (s .args .labels .now) (s .pre .0) (s .pre .2) (s .pre .3), omega (arith, few (query-asked (s .args .asked) (s .args .sections .now) (s .args .turns .now)) (s .args .labels .now) (s .pre .0) (s .pre .2) (s .pre .3)), rw (c .before .before .start-arrival .ensures) (walk-linked (walk-walked (query-asked (s .args .asked) (s .args .sections .now) (s .args .turns .now)) (s .args .labels .now) (s .pre .0) (s .pre .2) (s .pre .3))))
 
--- src/write.rt:41:5
 copy-front-requires : tie.Need-copy-front-requires
 copy-front-requires c κs =
     let s = c .before .before .before .before .before .before .before .before .before .before .before .before in
     (walk-held (query-asked (s .args .asked) (s .args .sections .now) (s .args .turns .now)) (s .args .labels .now) (s .pre .0) (s .pre .2) (s .pre .3), omega (arith, c .before .before .before .before .before .if1 .left))
 
--- src/write.rt:43:5
 copy-front-requires-2 : tie.Need-copy-front-requires-2
 copy-front-requires-2 c κs =
     let s = c .before .before .before .before .before .before .before .before .before .before .before .before .before .before .before .before in
     (labels-there (query-asked (s .args .asked) (s .args .sections .now) (s .args .turns .now)) (s .args .labels .now) (s .pre .0) (s .pre .2), omega arith)
 
--- src/write.rt:44:37
 cast-t18 : tie.Need-cast-t18
 cast-t18 c =
     let s = c .before .before .before .before .before .before .before .before .before .before .before .before .before .before .before .before .before .before .before in
     omega (arith, few (query-asked (s .args .asked) (s .args .sections .now) (s .args .turns .now)) (s .args .labels .now) (s .pre .0) (s .pre .2) (s .pre .3))
 
--- src/write.rt:21:1
 same-length : tie.Need-same-length
 same-length c = search needs
 
--- src/write.rt:21:1
 same-length-2 : tie.Need-same-length-2
 same-length-2 c = search needs
 
--- src/write.rt:21:1
 returns-2 : tie.Need-returns-2
 returns-2 c =
     let s = c .before .before .before .before .before .before .before .before .before .before .before .before .before .before .before .before .before .before .before in
