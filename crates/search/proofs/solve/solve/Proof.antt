@@ -1,7 +1,6 @@
 -- `solve` meets its contract: what solves the table's net solves the query.
 -- Assumes nothing.
 use native.Mathlib.Omega.{arith}
-use Rattle.rules.proofs.Trips.{start-inside}
 use Rattle.search.proofs.Solving.{listing-table, solved-query}
 use borrow.Author.Needs.{needs}
 use Rattle.search.proofs.solve.solve.Statement.{statement}
@@ -41,7 +40,7 @@ solve-over-requires : tie.Need-solve-over-requires
 solve-over-requires c κs =
     let s = c .before .before .before .before .before .before .before .before .before .before .before .before .before .before .before .before .before .before in
     let fewer = s .pre .0 .plan .few-sections in
-    (rw (c .before .before .before .before .before .before .finish-room .ensures) (listing-table (s .pre .0) (c .before .before .before .before .before .before .before .before .before .before .list-steps .ensures)), rw (c .before .before .before .before .before .start-arrival .ensures) (start-inside (s .pre .0)), omega (arith, s .pre .2), omega (arith, s .pre .3), record { none = λ a l. s .pre .4 .none a (omega arith) })
+    (rw (c .before .before .before .before .before .before .finish-room .ensures) (listing-table (s .pre .0) (c .before .before .before .before .before .before .before .before .before .before .list-steps .ensures)), omega (arith, c .before .before .before .before .before .start-arrival .ensures, s .pre .0 .start), omega (arith, s .pre .2), omega (arith, s .pre .3), record { none = λ a l. s .pre .4 .none a (omega arith) })
 
 same-length : tie.Need-same-length
 same-length c = search needs

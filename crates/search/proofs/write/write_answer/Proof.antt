@@ -21,7 +21,7 @@ shared-slice-read-if1 c =
 copy-front-requires : tie.Need-copy-front-requires
 copy-front-requires c κs =
     let s = c .before .before .before .before .before .before .before .before .before .before in
-    (labels-there (query-asked (s .args .asked) (s .args .sections .now) (s .args .turns .now)) (s .args .labels .now) (s .pre .0) (s .pre .2), omega arith)
+    (omega (arith, labels-there (query-asked (s .args .asked) (s .args .sections .now) (s .args .turns .now)) (s .args .labels .now) (s .pre .0) (s .pre .2)), omega arith)
 
 same-length : tie.Need-same-length
 same-length c = search needs

@@ -46,12 +46,12 @@ count-reversals-requires c κs =
 copy-front-requires : tie.Need-copy-front-requires
 copy-front-requires c κs =
     let s = c .before .before .before .before .before .before .before .before .before .before .before .before in
-    (walk-held (query-asked (s .args .asked) (s .args .sections .now) (s .args .turns .now)) (s .args .labels .now) (s .pre .0) (s .pre .2) (s .pre .3), omega (arith, c .before .before .before .before .before .if1 .left))
+    (omega (arith, walk-held (query-asked (s .args .asked) (s .args .sections .now) (s .args .turns .now)) (s .args .labels .now) (s .pre .0) (s .pre .2) (s .pre .3)), omega (arith, c .before .before .before .before .before .if1 .left))
 
 copy-front-requires-2 : tie.Need-copy-front-requires-2
 copy-front-requires-2 c κs =
     let s = c .before .before .before .before .before .before .before .before .before .before .before .before .before .before .before .before in
-    (labels-there (query-asked (s .args .asked) (s .args .sections .now) (s .args .turns .now)) (s .args .labels .now) (s .pre .0) (s .pre .2), omega arith)
+    (omega (arith, labels-there (query-asked (s .args .asked) (s .args .sections .now) (s .args .turns .now)) (s .args .labels .now) (s .pre .0) (s .pre .2)), omega arith)
 
 cast-t18 : tie.Need-cast-t18
 cast-t18 c =
