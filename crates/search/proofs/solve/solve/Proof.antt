@@ -8,7 +8,7 @@ use Rattle.search.proofs.solve.solve.Statement.{statement}
 use Rattle.search.proofs.solve.solve.Tie as tie
 use Rattle.search.proofs.solve.solve.Reads as reads
 use Rattle.search.proofs.solve.solve.Lts as lts
-use Rattle.search.proofs.solve.list_steps.Reads as list-steps-reads
+use Rattle.steps.proofs.listing.list_steps.Reads as list-steps-reads
 use Rattle.search.proofs.solve.solve_over.Reads as solve-over-reads
 use Rattle.train.proofs.place.start_arrival.Reads as start-arrival-reads
 use Rattle.train.proofs.room.finish_room.Reads as finish-room-reads

@@ -1,34 +1,28 @@
--- `list_steps` meets its contract: both tables are filled.
+-- `listing::list_steps` meets its contract: both tables are filled.
 -- Assumes nothing.
 use borrow.Author.Needs.{needs}
-use Rattle.search.proofs.solve.list_steps.Statement.{statement}
-use Rattle.search.proofs.solve.list_steps.Tie as tie
-use Rattle.search.proofs.solve.list_steps.Reads as reads
-use Rattle.search.proofs.solve.list_steps.Lts as lts
+use Rattle.steps.proofs.listing.list_steps.Statement.{statement}
+use Rattle.steps.proofs.listing.list_steps.Tie as tie
+use Rattle.steps.proofs.listing.list_steps.Reads as reads
+use Rattle.steps.proofs.listing.list_steps.Lts as lts
 use Rattle.steps.proofs.ends.fill_ends.Reads as fill-ends-reads
 use Rattle.steps.proofs.fill_steps.Reads as fill-steps-reads
 
--- src/solve.rt:52:5
 fill-steps-requires : tie.Need-fill-steps-requires
 fill-steps-requires c κs = search needs
 
--- src/solve.rt:53:5
 fill-ends-requires : tie.Need-fill-ends-requires
 fill-ends-requires c κs = search needs
 
--- src/solve.rt:39:1
 same-length : tie.Need-same-length
 same-length c = search needs
 
--- src/solve.rt:39:1
 same-length-2 : tie.Need-same-length-2
 same-length-2 c = search needs
 
--- src/solve.rt:39:1
 same-length-3 : tie.Need-same-length-3
 same-length-3 c = search needs
 
--- src/solve.rt:39:1
 returns : tie.Need-returns
 returns c =
     let s = c .before .before .before .before .before .before .before .before .before .before .before .before .before .before .before .before in
