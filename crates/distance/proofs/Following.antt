@@ -15,11 +15,11 @@ use Rattle.rules.specs.Net.{no-distance, Net, onward, distance, Shortest, Remai
 use Rattle.rules.proofs.Walks.{Tight, remaining-keeps}
 use Rattle.rules.proofs.Simple.{few-steps, far-below}
 use Rattle.rules.proofs.First.{Smallest, Follow, stop, go-on, Pick, LeadsOn, ends, steps, leads-on, reach, follow-walk, follow-first}
+use Rattle.rules.proofs.Lists.{any-default}
 use Rattle.distance.specs.Table.{Listed, table-net, Table}
 use Rattle.distance.specs.Answer.{Exact, Written}
 use Rattle.distance.specs.Labels.{offer}
 use Rattle.distance.specs.Picked.{Picked, first, second}
-use Rattle.distance.proofs.Sums.{any-default}
 use Rattle.distance.proofs.TableNet.{cost-at, bounded}
 use Rattle.distance.proofs.Exactness.{label-of, offered-step}
 

@@ -12,8 +12,9 @@ use borrow.Author.Count.{below-more}
 use lib.ListN.{length, getD, set, length-set}
 use lib.Seq.{getD-set-same, getD-set-other}
 use Rattle.rules.specs.Net.{no-distance}
+use Rattle.rules.proofs.Lists.{any-default}
 use Rattle.distance.specs.Labels.{offer, end-offer, best, sum, Blank, Above, Settled, Lowered, fell, stayed, Kept, Passed, Begun, Relaxed, Swept}
-use Rattle.distance.proofs.Sums.{any-default, sum-set}
+use Rattle.distance.proofs.Sums.{sum-set}
 use Rattle.distance.proofs.Offers.{step-offered, end-offered, set-not-above, best-falls}
 
 -- how the code lowers a label, or leaves it: a read within the labels

@@ -11,8 +11,8 @@ use borrow.Author.Tests.{eq-eqb, ne-eqb}
 use lib.ListN.{length, getD, set}
 use lib.Seq.{getD-set-same, getD-set-other}
 use Rattle.rules.specs.Net.{no-distance}
+use Rattle.rules.proofs.Lists.{any-default}
 use Rattle.distance.specs.Labels.{offer, end-offer, best}
-use Rattle.distance.proofs.Sums.{any-default}
 
 -- what is offered where a walk may end, and where not
 pub ends-here : (ends : List ℕ) (room a : ℕ) → getD ends a 0 ≡ 1 → end-offer ends room a ≡ room

@@ -8,9 +8,9 @@ use native.Mathlib.Omega.{arith}
 use lib.ListN.{length, getD}
 use Rattle.rules.specs.Net.{no-distance, NoWalk, Remaining, no-walk, by-walk}
 use Rattle.rules.proofs.Simple.{far-below}
+use Rattle.rules.proofs.Lists.{any-default}
 use Rattle.distance.specs.Table.{table-net, Table}
 use Rattle.distance.specs.Answer.{Exact}
-use Rattle.distance.proofs.Sums.{any-default}
 use Rattle.distance.proofs.TableNet.{bounded}
 
 module _ {next cost ends labels : List ℕ} {room n : ℕ} (T : Table next cost ends room n) (X : Exact (table-net next cost ends room n) n labels)

@@ -1,6 +1,7 @@
 -- What follows from the definitions of document 01: laws of tests, of walks and labels, and of the answers.
 pub mod Tests
 pub mod Branches
+pub mod Lists
 pub mod Ranges
 pub mod Verdicts
 pub mod Pigeon
@@ -14,6 +15,7 @@ pub mod SearchAnswers
 pub mod SearchDemands
 pub mod PullAnswers
 pub mod SheetAnswers
+pub mod SearchSheet
 pub mod Ways
 pub mod PullWays
 pub mod TurnPoints

@@ -6,7 +6,7 @@
 use mathlib.Core.Path.{_≡_, refl, sym, ap, _∙_}
 use mathlib.Core.Logic.{_≢_, _⊎_, inl, inr}
 use mathlib.Core.Bool.{Bool, true, false}
-use mathlib.Core.List.{List, [], _∷_, map}
+use mathlib.Core.List.{List, [], _∷_, _++_, map}
 use Prim.Native.Nat.{ℕ, _≤_}
 use native.Mathlib.Omega.{arith}
 use lib.Dec.{ltb}
@@ -39,29 +39,36 @@ after-12 true c h = omega arith
 after-12 false true h = omega arith
 after-12 false false h = omega arith
 
+-- what a walk handed out comes with
+pub record HandedOut (q : Query) (n : ℕ) (r : Result) : Type 0 where
+  pub accepted : verdict (query-checks q n) ≡ passed
+  pub first : FirstShortest (query-net q) (start-arrival q) (handed-out r)
+  pub numbers : r .numbers ≡ success q (handed-out r)
+  pub labelled : Labelled q (r .labels)
+
 module _ {q : Query} {route labels : List ℕ} {r : Result} where
   -- with number 0 the walk found stands in front, and the numbers are its own
-  front : Answer q route labels r → r .numbers .refusal ≡ 0
-      → FirstShortest (query-net q) (start-arrival q) (handed-out r) × (r .numbers ≡ success q (handed-out r)) × Labelled q (r .labels)
-  front (refused v e n z) h = absurd (n (sym (ap refusal-of z) ∙ h))
-  front (no-route ls e w l z) h = let f = ap refusal-of z in absurd (omega arith)
-  front (unwritten bs v e g i n z) h = absurd (n (sym (ap refusal-of z) ∙ h))
-  front (found bs ls e g i l z) h = rw (z, take-append-seam bs (drop (length bs) route)) (g, refl, l)
+  pub walk-there : Answer q route labels r → r .numbers .refusal ≡ 0 → HandedOut q (length labels) r
+  walk-there (refused v e n z) h = absurd (n (sym (ap refusal-of z) ∙ h))
+  walk-there (no-route ls e w l z) h = let f = ap refusal-of z in absurd (omega arith)
+  walk-there (unwritten bs v e g i n z) h = absurd (n (sym (ap refusal-of z) ∙ h))
+  walk-there (found bs ls e g i l z) h =
+      let c : take (length bs) (bs ++ drop (length bs) route) ≡ bs = take-append-seam bs (drop (length bs) route) in
+      rw z (record { accepted = e; first = rw c g; numbers = rw c refl; labelled = l })
 
-  module _ (a : Answer q route labels r) where
-    pub handed-out-first : r .numbers .refusal ≡ 0
-        → (cs : List ℕ) → Shortest (query-net q) (start-arrival q) cs → NotAfter (map sec (handed-out r)) (map sec cs)
-    handed-out-first h = front a h .0 .first
+  module _ (a : Answer q route labels r) (h : r .numbers .refusal ≡ 0) where
+    pub handed-out-walk : Walk (query-net q) (start-arrival q) (handed-out r)
+    handed-out-walk = walk-there a h .first .shortest .walk
 
-    pub handed-out-shortest : r .numbers .refusal ≡ 0
-        → (cs : List ℕ) → Walk (query-net q) (start-arrival q) cs → distance (query-net q) (start-arrival q) (handed-out r) ≤ distance (query-net q) (start-arrival q) cs
-    handed-out-shortest h = front a h .0 .shortest .least
+    pub handed-out-shortest : (cs : List ℕ) → Walk (query-net q) (start-arrival q) cs
+        → distance (query-net q) (start-arrival q) (handed-out r) ≤ distance (query-net q) (start-arrival q) cs
+    handed-out-shortest = walk-there a h .first .shortest .least
 
-    pub handed-out-walk : r .numbers .refusal ≡ 0 → Walk (query-net q) (start-arrival q) (handed-out r)
-    handed-out-walk h = front a h .0 .shortest .walk
+    pub handed-out-first : (cs : List ℕ) → Shortest (query-net q) (start-arrival q) cs → NotAfter (map sec (handed-out r)) (map sec cs)
+    handed-out-first = walk-there a h .first .first
 
-    pub handed-out-numbers : r .numbers .refusal ≡ 0 → r .numbers ≡ success q (handed-out r)
-    handed-out-numbers h = front a h .1
+    pub handed-out-numbers : r .numbers ≡ success q (handed-out r)
+    handed-out-numbers = walk-there a h .numbers
 
   pub twelve-none : Answer q route labels r → r .numbers .refusal ≡ 12
       → (verdict (query-checks q (length labels)) ≡ passed) × NoWalk (query-net q) (start-arrival q) × Labelled q (r .labels)
@@ -79,5 +86,5 @@ module _ {q : Query} {route labels : List ℕ} {r : Result} where
   none-twelve (found bs ls e g i l z) ok none = absurd (none bs (g .shortest .walk))
 
   pub labels-right : Answer q route labels r → (r .numbers .refusal ≡ 0) ⊎ (r .numbers .refusal ≡ 12) → Labelled q (r .labels)
-  labels-right a (inl h) = front a h .2
+  labels-right a (inl h) = walk-there a h .labelled
   labels-right a (inr h) = twelve-none a h .2

@@ -21,15 +21,15 @@ use Rattle.rules.proofs.Verdicts.{refuses-once, passes-once, passes, accepts, p
 use Rattle.rules.proofs.Walks.{remaining-unique}
 use Rattle.rules.proofs.Sound.{sound, label-length}
 use Rattle.rules.proofs.Trips.{start-inside, query-few-steps, total-below}
-use Rattle.distance.proofs.Sums.{any-default}
-use Rattle.search.specs.Asked.{Accepted}
+use Rattle.rules.proofs.Lists.{any-default}
+use Rattle.train.specs.Asked.{Accepted}
+use Rattle.train.proofs.Refusing.{RefusedWith}
 use Rattle.search.specs.Solved.{Solved}
 
--- the plan of a query that is accepted passes
-pub plan-accepted : (q : Query) (n : ℕ) → Accepted q n → verdict (plan-checks (q .plan)) ≡ passed
-plan-accepted q n ok =
-    let rest = train-checks q ++ (once 11 (not (eqb n (arrivals (q .plan)))) ∷ []) in
-    accepts (plan-checks (q .plan)) (passes-both (plan-checks (q .plan)) rest (passes (query-checks q n) tt ok) .0)
+-- what is refused by 1 to 11 writes nothing
+pub turned-away : {q : Query} {m p : ℕ} (route labels : List ℕ) → RefusedWith q (length labels) m p
+    → Answer q route labels (record { numbers = refusal (refused-at m p); route = route; labels = labels })
+turned-away {m = m} {p = p} route labels r = refused (refused-at m p) (r .first) (r .number) refl
 
 -- a walk is not too long, and fits or not
 module _ (route bs : List ℕ) (few : length bs < 2048) where

@@ -1,5 +1,4 @@
--- Laws of the search: its table as a net, what solves it, its refusals and its answers.
+-- Laws of the search: its table as a net, what solves it, and its answers.
 pub mod StepNet
 pub mod Solving
-pub mod Refusing
 pub mod Answering

@@ -13,10 +13,11 @@ use Rattle.rules.specs.Net.{no-distance, Net}
 use Rattle.rules.proofs.Alike.{Within, same-remaining, same-first}
 use Rattle.rules.proofs.Sound.{Sound}
 use Rattle.rules.proofs.Trips.{sound-trip}
+use Rattle.rules.proofs.Lists.{any-default}
 use Rattle.distance.specs.Table.{table-net, Table}
 use Rattle.distance.specs.Answer.{Labels, Written}
-use Rattle.search.specs.Solved.{Listing, Known, SolvedOver, Solved}
-use Rattle.distance.proofs.Sums.{any-default}
+use Rattle.steps.specs.Listing.{Listing}
+use Rattle.search.specs.Solved.{Known, SolvedOver, Solved}
 use Rattle.search.proofs.StepNet.{table-to-trip, trip-to-table, trip-table}
 
 module _ {N : Net} {n : ℕ} {entry labels : List ℕ} (L : Labels N n entry labels) (long : n ≤ length entry) where

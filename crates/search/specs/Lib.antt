@@ -1,4 +1,3 @@
 -- What the search's inner functions hand on, and what its answer means.
-pub mod Asked
 pub mod Solved
 pub mod Answer

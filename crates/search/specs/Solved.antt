@@ -1,4 +1,4 @@
--- What the inner functions of the search hand on: tables of steps, labels and a walk.
+-- What the inner functions of the search hand on: labels and a walk.
 -- Assumes nothing.
 use mathlib.Core.List.{List}
 use Prim.Native.Nat.{ℕ, _≤_, _<_}
@@ -6,16 +6,7 @@ use lib.ListN.{length, getD, take}
 use Rattle.rules.specs.Plan.{arrivals}
 use Rattle.rules.specs.Query.{Query, start-arrival}
 use Rattle.rules.specs.Net.{no-distance, Net, FirstShortest, Remaining}
-use Rattle.rules.specs.Trip.{trip-of, query-net}
-use Rattle.steps.specs.StepTable.{StepTable, Ends}
-
--- the tables list the query's steps and the arrivals at which a walk may end
-pub record Listing (q : Query) (next cost ends : List ℕ) : Type 0 where
-  pub steps : StepTable (trip-of q) next cost
-  pub endings : Ends (trip-of q) ends
-  pub next-long : 4096 ≤ length next
-  pub cost-long : 4096 ≤ length cost
-  pub ends-long : 2048 ≤ length ends
+use Rattle.rules.specs.Trip.{query-net}
 
 -- there is a label for each of n arrivals, and it is the remaining distance
 pub record Known (N : Net) (n : ℕ) (labels : List ℕ) : Type 0 where

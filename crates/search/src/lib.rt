@@ -20,7 +20,7 @@ ghost use Rattle.rules.specs.Refusals.{verdict, passed};
 ghost use Rattle.rules.specs.PlanCheck.{plan-checks};
 ghost use Rattle.rules.specs.Query.{query-of};
 ghost use Rattle.rules.specs.Search.{Answer};
-ghost use Rattle.search.specs.Asked.{query-asked, Accepted};
+ghost use Rattle.train.specs.Asked.{query-asked, Accepted};
 ghost use Rattle.search.specs.Answer.{result-of};
 use plan::Checked;
 use plan::check_plan;
@@ -28,18 +28,9 @@ use plan::slots::index;
 use pullout::turn_table::turn_table;
 use rules::NO_DISTANCE;
 use solve::solve;
+use train::Asked;
 use train::check_train;
 use write::write_answer;
-
-// What is asked, besides the tables of the plan.
-pub struct Asked {
-    pub points: u32,
-    pub length: u32,
-    pub start: u32,
-    pub leave: u32,
-    pub finish: u32,
-    pub enter: u32,
-}
 
 // What is answered: a walk's total, reversals and steps, or a refusal's number and place.
 pub enum Routed {

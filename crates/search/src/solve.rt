@@ -5,14 +5,13 @@ ghost use Rattle.rules.proofs.Sound.{Sound};
 ghost use Rattle.pullout.specs.Tables.{Tables};
 ghost use Rattle.distance.specs.Table.{table-net, Table};
 ghost use Rattle.distance.specs.Labels.{Blank};
-ghost use Rattle.search.specs.Asked.{query-asked};
-ghost use Rattle.search.specs.Solved.{Listing, SolvedOver, Solved};
-use crate::Asked;
+ghost use Rattle.train.specs.Asked.{query-asked};
+ghost use Rattle.search.specs.Solved.{SolvedOver, Solved};
 use distance::first_walk;
 use distance::remaining;
 use rules::NO_DISTANCE;
-use steps::ends::fill_ends;
-use steps::fill_steps;
+use steps::listing::list_steps;
+use train::Asked;
 use train::place::start_arrival;
 use train::room::finish_room;
 
@@ -35,34 +34,6 @@ fn solve_over(
         return 0;
     }
     first_walk(next, cost, ends, room, count, known, from, walk)
-}
-
-// The steps of what is asked, and where its walks may end.
-fn list_steps(
-    sections: &[u32],
-    turns: &[u32],
-    slots: &[u32; 2304],
-    table: &[u32; 1536],
-    asked: Asked,
-    next: &mut [u32],
-    cost: &mut [u32],
-    ends: &mut [u32],
-)
-    requires { ⌜ Sound (query-asked asked (now sections) (now turns)) × Tables (now sections) (now turns) (now slots) (now table) × (4096 ≤ length (now next)) × (4096 ≤ length (now cost)) × (2048 ≤ length (now ends)) ⌝ }
-    ensures { λ _. ⌜ Listing (query-asked asked (now (sections .entry)) (now (turns .entry))) (now (next .exit)) (now (cost .exit)) (now (ends .exit)) ⌝ }
-{
-    fill_steps(
-        sections,
-        turns,
-        slots,
-        table,
-        asked.length,
-        asked.start,
-        asked.finish,
-        next,
-        cost,
-    );
-    fill_ends(sections, asked.finish, asked.enter, ends);
 }
 
 // All labels and the walk of what is asked; the answer is how many steps the walk has.

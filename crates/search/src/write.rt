@@ -6,14 +6,14 @@ ghost use Rattle.rules.specs.Query.{start-arrival};
 ghost use Rattle.rules.specs.Net.{no-distance};
 ghost use Rattle.rules.specs.Search.{Answer};
 ghost use Rattle.pullout.specs.Tables.{TurnTable};
-ghost use Rattle.search.specs.Asked.{query-asked, Accepted};
+ghost use Rattle.train.specs.Asked.{query-asked, Accepted};
 ghost use Rattle.search.specs.Solved.{Solved};
 ghost use Rattle.search.specs.Answer.{result-of};
-use crate::Asked;
 use crate::Routed;
 use pullout::copy::copy_front;
 use rules::NO_DISTANCE;
 use steps::reversals::count_reversals;
+use train::Asked;
 use train::place::first_distance;
 use train::place::start_arrival;
 

@@ -1,2 +1,3 @@
--- Laws of the checks of a train.
+-- Laws of the checks of a train, and of all the checks of a query.
 pub mod Order
+pub mod Refusing

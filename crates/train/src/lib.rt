@@ -15,6 +15,16 @@ ghost use Rattle.rules.specs.Refusals.{verdict};
 ghost use Rattle.rules.specs.Query.{query-of, start-good, finish-good, train-checks};
 ghost use Rattle.plan.specs.Answer.{checked-of};
 
+// What is asked of a search or of a sheet, besides the tables of the plan.
+pub struct Asked {
+    pub points: u32,
+    pub length: u32,
+    pub start: u32,
+    pub leave: u32,
+    pub finish: u32,
+    pub enter: u32,
+}
+
 // The train's length is in range.
 pub fn train_good(length: u32) -> bool
     ensures { λ r. ⌜ r ≡ between 1 length 20000 ⌝ }

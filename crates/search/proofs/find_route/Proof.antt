@@ -6,8 +6,8 @@ use Rattle.rules.specs.Plan.{plan-of}
 use Rattle.rules.proofs.Sound.{sound}
 use Rattle.plan.proofs.Known.{plan-joined, plan-three, plan-turned}
 use Rattle.distance.proofs.Fronts.{blank-new}
-use Rattle.search.specs.Asked.{query-asked}
-use Rattle.search.proofs.Answering.{plan-accepted}
+use Rattle.train.specs.Asked.{query-asked}
+use Rattle.train.proofs.Refusing.{plan-accepted}
 use borrow.Author.Needs.{needs}
 use Rattle.search.proofs.find_route.Statement.{statement}
 use Rattle.search.proofs.find_route.Tie as tie

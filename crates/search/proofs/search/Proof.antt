@@ -1,10 +1,12 @@
 -- `search` meets its contract: rows 1 to 6 are the plan check's, and then come the others.
 -- Assumes nothing.
+use lib.ListN.{length}
 use Rattle.rules.specs.Plan.{plan-of}
 use Rattle.rules.specs.PlanCheck.{plan-checks}
 use Rattle.rules.specs.Query.{query-of}
 use Rattle.plan.proofs.Answers.{answer-passes}
-use Rattle.search.proofs.Refusing.{plan-refused}
+use Rattle.train.proofs.Refusing.{plan-refused}
+use Rattle.search.proofs.Answering.{turned-away}
 use borrow.Author.Needs.{needs}
 use Rattle.search.proofs.search.Statement.{statement}
 use Rattle.search.proofs.search.Tie as tie
@@ -26,7 +28,7 @@ search-plan-requires c κs =
 returns : tie.Need-returns
 returns c =
     let s = c .before .before .before .before .before .before .before .before in
-    plan-refused (query-of (plan-of (s .args .points) (s .args .sections .now) (s .args .turns .now)) (s .args .length) (s .args .start) (s .args .leave) (s .args .finish) (s .args .enter)) (s .args .route .now) (s .args .labels .now) (c .before .before .before .check-plan .ensures) (c .before .checked .given .1)
+    turned-away (s .args .route .now) (s .args .labels .now) (plan-refused (query-of (plan-of (s .args .points) (s .args .sections .now) (s .args .turns .now)) (s .args .length) (s .args .start) (s .args .leave) (s .args .finish) (s .args .enter)) (length (s .args .labels .now)) (c .before .before .before .check-plan .ensures) (c .before .checked .given .1))
 
 same-length : tie.Need-same-length
 same-length c = search needs

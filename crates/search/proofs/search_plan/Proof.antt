@@ -1,7 +1,9 @@
 -- `search_plan` meets its contract: rows 7 to 10 are the train's check, row 11 is tested here, and then come the others.
 -- Assumes nothing.
-use Rattle.search.specs.Asked.{query-asked}
-use Rattle.search.proofs.Refusing.{train-refused, labels-refused, accepted}
+use lib.ListN.{length}
+use Rattle.train.specs.Asked.{query-asked}
+use Rattle.train.proofs.Refusing.{train-refused, labels-refused, accepted}
+use Rattle.search.proofs.Answering.{turned-away}
 use borrow.Author.Needs.{needs}
 use Rattle.search.proofs.search_plan.Statement.{statement}
 use Rattle.search.proofs.search_plan.Tie as tie
@@ -21,17 +23,17 @@ mul-if1 c = search needs
 returns : tie.Need-returns
 returns c =
     let s = c .before .before .before .before .before .before .before .before in
-    labels-refused (query-asked (s .args .asked) (s .args .sections .now) (s .args .turns .now)) (s .args .route .now) (s .args .labels .now) (s .pre) (c .before .before .before .check-train .ensures) (c .before .enum-told .given .1) (c .if1 .taken)
+    turned-away (s .args .route .now) (s .args .labels .now) (labels-refused (query-asked (s .args .asked) (s .args .sections .now) (s .args .turns .now)) (length (s .args .labels .now)) (s .pre) (c .before .before .before .check-train .ensures) (c .before .enum-told .given .1) (c .if1 .taken))
 
 find-route-requires : tie.Need-find-route-requires
 find-route-requires c κs =
     let s = c .before .before .before .before .before .before .before .before .before .before in
-    accepted (query-asked (s .args .asked) (s .args .sections .now) (s .args .turns .now)) (s .args .route .now) (s .args .labels .now) (s .pre) (c .before .before .before .before .before .check-train .ensures) (c .before .before .before .enum-told .given .1) (c .before .before .if1 .left)
+    accepted (query-asked (s .args .asked) (s .args .sections .now) (s .args .turns .now)) (length (s .args .labels .now)) (s .pre) (c .before .before .before .before .before .check-train .ensures) (c .before .before .before .enum-told .given .1) (c .before .before .if1 .left)
 
 returns-2 : tie.Need-returns-2
 returns-2 c =
     let s = c .before .before .before .before .before .before .before .before in
-    train-refused (query-asked (s .args .asked) (s .args .sections .now) (s .args .turns .now)) (s .args .route .now) (s .args .labels .now) (s .pre) (c .before .before .before .check-train .ensures) (c .before .checked .given .1)
+    turned-away (s .args .route .now) (s .args .labels .now) (train-refused (query-asked (s .args .asked) (s .args .sections .now) (s .args .turns .now)) (length (s .args .labels .now)) (s .pre) (c .before .before .before .check-train .ensures) (c .before .checked .given .1))
 
 same-length : tie.Need-same-length
 same-length c = search needs

@@ -5,7 +5,7 @@ use borrow.Author.Needs.{needs}
 use denote.Ref.{now}
 use lib.ListN.{List·getD-eq-default}
 use Rattle.rules.specs.Net.{no-distance}
-use Rattle.distance.proofs.Sums.{any-default}
+use Rattle.rules.proofs.Lists.{any-default}
 use Rattle.distance.proofs.label.label_at.Statement.{statement}
 use Rattle.distance.proofs.label.label_at.Tie as tie
 

@@ -1,7 +1,7 @@
 -- `write_answer` meets its contract: no walk leads on from the start, or one is handed out.
 -- Assumes nothing.
 use native.Mathlib.Omega.{arith}
-use Rattle.search.specs.Asked.{query-asked}
+use Rattle.train.specs.Asked.{query-asked}
 use Rattle.search.proofs.Answering.{start-there, labels-there, no-way, start-number}
 use borrow.Author.Needs.{needs}
 use Rattle.search.proofs.write.write_answer.Statement.{statement}

@@ -3,8 +3,9 @@
 use native.Mathlib.Omega.{arith}
 use lib.ListN.{length}
 use Rattle.steps.proofs.Reversing.{walk-linked}
-use Rattle.search.specs.Asked.{query-asked}
-use Rattle.search.proofs.Answering.{plan-accepted, start-there, start-low, labels-there, few, walk-held, walk-walked, total-fits, no-room, handed-out}
+use Rattle.train.specs.Asked.{query-asked}
+use Rattle.train.proofs.Refusing.{plan-accepted}
+use Rattle.search.proofs.Answering.{start-there, start-low, labels-there, few, walk-held, walk-walked, total-fits, no-room, handed-out}
 use borrow.Author.Needs.{needs}
 use Rattle.search.proofs.write.write_walk.Statement.{statement}
 use Rattle.search.proofs.write.write_walk.Tie as tie

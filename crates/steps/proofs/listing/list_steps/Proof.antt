@@ -1,8 +1,8 @@
--- `list_steps` meets its contract: both tables are filled.
+-- `listing::list_steps` meets its contract: both tables are filled.
 -- Assumes nothing.
 use borrow.Author.Needs.{needs}
-use Rattle.search.proofs.solve.list_steps.Statement.{statement}
-use Rattle.search.proofs.solve.list_steps.Tie as tie
+use Rattle.steps.proofs.listing.list_steps.Statement.{statement}
+use Rattle.steps.proofs.listing.list_steps.Tie as tie
 
 fill-steps-requires : tie.Need-fill-steps-requires
 fill-steps-requires c κs = search needs

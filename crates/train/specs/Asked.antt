@@ -1,4 +1,4 @@
--- What is asked of the search.
+-- What is asked, and that refusals 1 to 11 do not apply to it.
 -- Assumes nothing.
 use mathlib.Core.Path.{_≡_}
 use mathlib.Core.List.{List}
@@ -6,7 +6,7 @@ use Prim.Native.Nat.{ℕ}
 use Rattle.rules.specs.Plan.{plan-of}
 use Rattle.rules.specs.Refusals.{verdict, passed}
 use Rattle.rules.specs.Query.{Query, query-of, query-checks}
-use Rattle.search.specs.declared.Asked.{Asked}
+use Rattle.train.specs.declared.Asked.{Asked}
 
 -- the query that is asked over these tables of sections and turns
 abbrev pub query-asked : Asked → List ℕ → List ℕ → Query

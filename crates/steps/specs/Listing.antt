@@ -1,0 +1,16 @@
+-- All the tables of a query.
+-- Assumes nothing.
+use mathlib.Core.List.{List}
+use Prim.Native.Nat.{ℕ, _≤_}
+use lib.ListN.{length}
+use Rattle.rules.specs.Query.{Query}
+use Rattle.rules.specs.Trip.{trip-of}
+use Rattle.steps.specs.StepTable.{StepTable, Ends}
+
+-- the tables list the query's steps and the arrivals at which a walk may end
+pub record Listing (q : Query) (next cost ends : List ℕ) : Type 0 where
+  pub steps : StepTable (trip-of q) next cost
+  pub endings : Ends (trip-of q) ends
+  pub next-long : 4096 ≤ length next
+  pub cost-long : 4096 ≤ length cost
+  pub ends-long : 2048 ≤ length ends

@@ -1,0 +1,2 @@
+-- What this crate says beyond the rules: the query that is asked.
+pub mod Asked
