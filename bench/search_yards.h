@@ -7,7 +7,8 @@
 #include <random>
 #include <string>
 
-// The standard's distributions differ from library to library, so numbers are drawn by hand.
+// The standard's distributions differ from library to library, so numbers are drawn by hand. Compilers differ in the order in
+// which they work out arguments, so no call has two that draw numbers or lay ways.
 struct Draw {
     std::mt19937 numbers;
 
@@ -64,8 +65,8 @@ class Layout {
     // Dead ends side by side on a ladder of switches that begins at the point `lead`.
     void dead_ends(uint32_t lead, uint32_t count) {
         for (uint32_t i = 0; i + 2 < count; i++) {
-            const uint32_t next = point();
-            fork(lead, stub(lead), link(lead, next));
+            const uint32_t next = point(), dead_end = stub(lead);
+            fork(lead, dead_end, link(lead, next));
             lead = next;
         }
         const uint32_t one = stub(lead);
