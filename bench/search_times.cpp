@@ -6,9 +6,9 @@
 #include "baseline.h"
 #include "finder.h"
 #include "search_yards.h"
-#include <chrono>
 #include <cstdio>
 #include <cstdlib>
+#include <ctime>
 #include <valgrind/callgrind.h>
 
 extern "C" finder_answer finder_search(uint32_t points, const uint32_t *sections, size_t sections_len, const uint32_t *turns,
@@ -56,10 +56,17 @@ void by_refusal(const Query &query, Outcome &outcome) { outcome.answer = search(
 
 using Side = void (*)(const Query &, Outcome &);
 
+// The time that this program had the processor: a call takes long enough to be interrupted by other programs.
+long long now() {
+    timespec time{};
+    clock_gettime(CLOCK_THREAD_CPUTIME_ID, &time);
+    return time.tv_sec * 1'000'000'000ll + time.tv_nsec;
+}
+
 long long once(Side side, const Query &query, Outcome &outcome) {
-    const auto start = std::chrono::steady_clock::now();
+    const long long start = now();
     side(query, outcome);
-    return std::chrono::nanoseconds(std::chrono::steady_clock::now() - start).count();
+    return now() - start;
 }
 
 // The least time of a few calls on each side, turn about, so that what else the machine does hits all sides alike.
@@ -122,7 +129,7 @@ std::vector<Query> without_turns(std::vector<Query> queries) {
     return queries;
 }
 
-// Entered from a dead end, a finish has no walk: no arrival gets a label.
+// Entered from a dead end, a finish has no walk: no arrival gets a label. Main checks that one is found for each query.
 std::vector<Query> without_ends(std::vector<Query> queries) {
     for (Query &query : queries) {
         std::vector<uint32_t> degrees(query.plan.points);
@@ -145,14 +152,25 @@ struct Part {
     std::vector<Query> queries;
 };
 
+constexpr size_t part_without_ends = 3;
+
 std::vector<Part> parts() {
     const std::vector<Query> queries = draw_queries(pardubice(1), true, 2), no_turns = without_turns(queries);
     return {{"check", by_check, queries},
             {"refused", by_refusal, queries},
+            {"no turns, refused", by_refusal, no_turns},
             {"no turns, no ends", by_finder, without_ends(no_turns)},
             {"no turns", by_finder, no_turns},
             {"whole", by_finder, queries},
             {"baseline", by_baseline, queries}};
+}
+
+bool all_without_walk(const Part &part) {
+    return std::all_of(part.queries.begin(), part.queries.end(), [&](const Query &query) {
+        Outcome outcome(query);
+        by_finder(query, outcome);
+        return outcome.answer.refusal == 12 && outcome.labels == std::vector<uint32_t>(outcome.labels.size(), baseline::none);
+    });
 }
 
 void print_part(size_t number, const Part &part) {
@@ -184,5 +202,9 @@ int main(int argc, char **argv) {
         for (const uint32_t size : family.sizes)
             for (const bool half_occupied : {false, true}) equal = print_yard(family, size, half_occupied) && equal;
     for (size_t number = 0; number < all.size(); number++) print_part(number, all[number]);
+    if (!all_without_walk(all[part_without_ends])) {
+        std::fprintf(stderr, "a finish that is to have no walk has one\n");
+        return 1;
+    }
     return equal ? 0 : 1;
 }

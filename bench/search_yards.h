@@ -83,6 +83,13 @@ class Layout {
         return on;
     }
 
+    // A loop at the end of the line, in which a train turns round.
+    void balloon(uint32_t neck) {
+        const uint32_t left = point(), right = point(), out = link(neck, left), back = link(right, neck);
+        link(left, right);
+        fork(neck, out, back);
+    }
+
     // Ways drawn at random get one more section each until the plan has so many points.
     Plan lay(uint32_t points_wanted = 0) {
         uint32_t all = points;
@@ -145,11 +152,22 @@ inline Plan pardubice(uint32_t) {
     return yard.lay(677);
 }
 
-// A line that ends in a depot: dead ends on one ladder, and the line itself to come and go.
+// Dead ends on one ladder, behind a stretch of line that leaves the plan.
 inline Plan ladder_depot(uint32_t count) {
     Layout yard(count);
     const uint32_t line = yard.point(), lead = yard.point();
     yard.stub(line);
+    yard.link(line, lead);
+    yard.dead_ends(lead, count);
+    return yard.lay();
+}
+
+// The same behind a balloon. A run that goes round it comes back over points that it has passed: no pull-out, although it
+// is long enough. So whether the first trains on the ladder can reverse is a harder question than elsewhere.
+inline Plan balloon_depot(uint32_t count) {
+    Layout yard(count);
+    const uint32_t line = yard.point(), lead = yard.point();
+    yard.balloon(line);
     yard.link(line, lead);
     yard.dead_ends(lead, count);
     return yard.lay();
@@ -181,6 +199,7 @@ struct SearchFamily {
 inline const std::vector<SearchFamily> search_families{
     {"like Pardubice", pardubice, {1}},
     {"ladder depot", ladder_depot, {20, 60, 180}},
+    {"ladder depot behind a balloon", balloon_depot, {20, 60, 180}},
     {"line of stations", line_of_stations, {6, 18, 50}},
     {"chain of passing loops", passing_loops, {12, 36, 108}},
 };
