@@ -182,8 +182,8 @@ struct Steps {
 class Search {
   public:
     Search(const Yard &yard, const Query &query)
-        : yard(yard), query(query), goal(yard.point_of(2 * query.finish + query.finish_end)), onward(2 * yard.sections.size()),
-          backward(2 * yard.sections.size()) {}
+        : yard(yard), query(query), goal(yard.point_of(2 * query.finish + query.finish_end)),
+          onward(2 * yard.sections.size()), backward(2 * yard.sections.size()) {}
 
     finder_answer run(uint32_t room, uint32_t first_distance, std::vector<uint32_t> &route, std::vector<uint32_t> &labels) {
         find_steps();
