@@ -1,6 +1,6 @@
 // finder_search through the C ABI: document 01's small yards, document 003's yard, the errors planners have met, ties, the
-// largest plans, each refusal and their order, lent buffers at guard pages, and a comparison with the second program on plans
-// drawn at random. Every expected answer is that of the second program as well.
+// largest plans, each refusal and their order, lent buffers at guard pages, and a comparison with the second program on
+// plans drawn at random.
 #include "finder.h"
 #include "guard.h"
 #include "paper_yard.h"
@@ -26,10 +26,9 @@ SearchAnswer call(const Plan &plan, const Query &query, const List &route, const
     Guarded sections(plan.sections), turns(plan.turns), lent_route(route), lent_labels(labels);
     sections.seal();
     turns.seal();
-    const finder_answer a =
-        finder_search(plan.points, sections.data(), sections.size(), turns.data(), turns.size(), query.length,
-                      query.start, query.start_end, query.finish, query.finish_end, lent_route.data(),
-                      lent_route.size(), lent_labels.data(), lent_labels.size());
+    const finder_answer a = finder_search(plan.points, sections.data(), sections.size(), turns.data(), turns.size(),
+                                          query.length, query.start, query.start_end, query.finish, query.finish_end,
+                                          lent_route.data(), lent_route.size(), lent_labels.data(), lent_labels.size());
     const auto held = [](Guarded &buffer) { return List(buffer.data(), buffer.data() + buffer.size()); };
     return {a.refusal, a.place, a.total, a.reversals, a.steps, held(lent_route), held(lent_labels)};
 }
@@ -116,8 +115,7 @@ void finds(const std::string &what, const Plan &plan, const Query &query, const 
 void finds(const std::string &what, const Plan &plan, const Query &query, const Walk &walk, PullOuts &pull_outs) {
     const auto steps = static_cast<uint32_t>(walk.arrivals.size());
     const SearchAnswer answer = second::search(plan, query, route_of(steps), labels_of(2 * plan.count()), pull_outs);
-    expect(what + " (second program)", answer,
-           {0, 0, walk.total, walk.reversals, steps, walk.arrivals, answer.labels});
+    expect(what + " (second program)", answer, {0, 0, walk.total, walk.reversals, steps, walk.arrivals, answer.labels});
     finds(what, plan, query, walk, answer.labels);
 }
 
@@ -135,8 +133,7 @@ const Query asked{600, 3, 0, 4, 0};
 const List no_labels(10, none);
 
 void yard_y_cases() {
-    finds("yard Y", yard_y, asked, {4100, 1, {2, 5}},
-          List{none, 3000, 3600, none, none, 2500, 4000, none, none, none});
+    finds("yard Y", yard_y, asked, {4100, 1, {2, 5}}, List{none, 3000, 3600, none, none, 2500, 4000, none, none, none});
     finds("yard Y", yard_y, asked, {4100, 1, {2, 5}});
     const auto spur = [](uint32_t from_b) { return with(yard_y, [=](Plan &plan) { plan.occupy(0, 2000, from_b); }); };
     finds("section 0 with 600 free from B", spur(600), asked, {4100, 1, {2, 5}});
@@ -195,8 +192,9 @@ void paper_examples() {
     to(0, 1, 1119);
 }
 
-// A train of 120 m alone at its start end. One entry differs from document 01: from [e8,v15] to [e10,v21] the paper has 1393,
-// since it reads the start section as cleared for a pull-out; here it counts as occupied throughout, and there is no walk.
+// A train of 120 m alone at its start end. One entry differs from document 01: from [e8,v15] to [e10,v21] the paper has
+// 1393, since it reads the start section as cleared for a pull-out; here it counts as occupied throughout, and there is no
+// walk.
 void paper_table() {
     PullOuts pull_outs(paper_yard);
     for (size_t i = 0; i < paper_ends.size(); i++)
@@ -347,7 +345,8 @@ void pull_outs_as_they_stand() {
     finds("the finish at once", ring, {40, 0, 1, finish, 0}, {60 + 20 + 50, 0, {3}});
 }
 
-// From a section to itself: out by one end, round a loop, in by the other. The room is the whole length if the train is alone.
+// From a section to itself: out by one end, round a loop, in by the other. The room is the whole length if the train is
+// alone.
 void back_to_the_start() {
     Plan plan{3, {}, {}};
     plan.join(0, 1, 100, 1);
@@ -487,8 +486,8 @@ void null_tables() {
     const Plan &y = yard_y;
     const auto with_turns = [&](const uint32_t *turns, size_t turns_len, List labels) {
         const finder_answer a =
-            finder_search(y.points, y.sections.data(), y.sections.size(), turns, turns_len, 600, 3, 0, 4, 0, nullptr,
-                          0, labels.empty() ? nullptr : labels.data(), labels.size());
+            finder_search(y.points, y.sections.data(), y.sections.size(), turns, turns_len, 600, 3, 0, 4, 0, nullptr, 0,
+                          labels.empty() ? nullptr : labels.data(), labels.size());
         return got(a, labels);
     };
     expect("a null route buffer", with_turns(y.turns.data(), 2, labels_of(10)), {14, 0, 0, 0, 0, {}, labels_of(10)});
@@ -497,6 +496,282 @@ void null_tables() {
     expect("null turns", with_turns(nullptr, 0, labels_of(10)), {14, 0, 0, 0, 0, {}, labels_of(10)});
     expect("all null", got(finder_search(6, nullptr, 0, nullptr, 0, 600, 3, 0, 4, 0, nullptr, 0, nullptr, 0), {}),
            {1, 0, 0, 0, 0, {}, {}});
+}
+
+// A line of n sections over n + 1 points; the first and the last are destinations, and the first is full.
+Plan line(uint32_t n, uint32_t length) {
+    Plan plan{n + 1, {}, {}};
+    for (uint32_t s = 0; s < n; s++) plan.join(s, s + 1, length, s == 0 || s + 1 == n);
+    plan.occupy(0, 0, 0);
+    return plan;
+}
+
+// Two lines of n points each, and rungs between the first k of them: 2n - 2 + k sections. The first section of one line is
+// full.
+Plan ladder(uint32_t n, uint32_t k, uint32_t length) {
+    Plan plan{2 * n, {}, {}};
+    for (uint32_t p = 0; p + 1 < n; p++) {
+        plan.join(p, p + 1, length, p == 0);
+        plan.join(n + p, n + p + 1, length, p + 2 == n);
+    }
+    for (uint32_t p = 0; p < k; p++) plan.join(p, n + p, length);
+    plan.occupy(0, 0, 0);
+    return plan;
+}
+
+// A line of 385 sections with a spur at each point between two connecting ones, where the turn along the line is forbidden:
+// 768 points, and 382 reversals, the most that a line has.
+void zigzag() {
+    const uint32_t n = 385, length = 200000, train = 20000, spurs = n - 3, step = train + length;
+    Plan plan = line(n, length);
+    for (uint32_t i = 0; i < spurs; i++) {
+        plan.join(i + 2, plan.points++, train);
+        plan.forbid(i + 1, i + 2);
+    }
+    Walk walk{length + (spurs + 1) * length + spurs * train, spurs, {}};
+    List labels(2 * plan.count(), none);
+    for (uint32_t s = 0; s + 1 < n; s++) {
+        if (s > 0) walk.arrivals.push_back(2 * s + 1);
+        // From here on each step to section n - 2 is a reversal, but for that from the start section.
+        labels[2 * s + 1] = length + (s == 0 ? spurs * step + length : (n - 2 - s) * step);
+    }
+    // A spur leads onto the line without a reversal.
+    for (uint32_t i = 0; i < spurs; i++) labels[2 * (n + i)] = length + labels[2 * (i + 2) + 1];
+    finds("382 reversals", plan, {train, 0, 1, n - 1, 0}, walk, labels);
+    plan.occupy(n + spurs / 2, train - 1, 0);
+    const SearchAnswer a = call(plan, {train, 0, 1, n - 1, 0}, route_of(2048), labels_of(2 * plan.count()));
+    for (uint32_t s = 0; s < 2 + spurs / 2; s++) labels[2 * s + 1] = none;
+    for (uint32_t i = 0; i < spurs / 2; i++) labels[2 * (n + i)] = none;
+    expect("one spur is one decimetre too short", a, {12, 0, 0, 0, 0, route_of(2048), labels});
+}
+
+void largest() {
+    List arrivals;
+    for (uint32_t s = 1; s < 766; s++) arrivals.push_back(2 * s + 1);
+    finds("a line of 767 sections", line(767, 200000), {20000, 0, 1, 766, 0}, {766 * 200000, 0, arrivals});
+    Plan plan = ladder(384, 258, 200000);
+    const Query query{20000, 0, 1, 765, 0};
+    const SearchAnswer expected = second::search(plan, query, route_of(2048), labels_of(2048));
+    expect("768 points and 1,024 sections", call(plan, query, route_of(2048), labels_of(2048)), expected);
+    if (expected.steps < 380) std::puts("search_test: the walk over the ladder is short"), failed = 1;
+    plan.join(0, 767, 1);
+    refuses("1,025 sections", plan, query, 1);
+    plan = ladder(384, 258, 200000);
+    plan.turns.assign(2 * 769, 1);
+    refuses("769 turns", plan, query, 1);
+    zigzag();
+}
+
+// A plan and two destination sections of it, one with stock, the other mostly without, both longer than the rest.
+struct Drawn {
+    Plan plan;
+    uint32_t x, y;
+
+    uint32_t stock() const {
+        const uint32_t *section = &plan.sections[6 * x];
+        return section[2] - section[4] - section[5];
+    }
+};
+
+// The two destinations and the turns of a plan that has its sections.
+Drawn draw_rest(Draw &draw, Plan plan) {
+    const uint32_t x = draw.below(plan.count()), y = draw.below(plan.count());
+    for (uint32_t s : {x, y}) {
+        const uint32_t length = 1 + draw.below(12);
+        plan.sections[6 * s + 2] = length;
+        plan.sections[6 * s + 3] = 1;
+        plan.occupy(s, length, length);
+        draw_stock(draw, plan, s);
+    }
+    const uint32_t length = plan.sections[6 * x + 2], from_a = draw.below(length);
+    plan.occupy(x, from_a, draw.below(length - from_a));
+    draw_turns(draw, plan);
+    return {plan, x, y};
+}
+
+// In two of three plans nothing stands anywhere else, and what is connecting is 1 or 2 long: many walks are equally short.
+Drawn draw_yard(Draw &draw, uint32_t points) {
+    Plan plan{points, {}, {}};
+    draw_sections(draw, plan, points + draw.below(4 * points));
+    const bool level = !draw.one_in(3);
+    for (uint32_t s = 0; s < plan.count() && level; s++) {
+        uint32_t *section = &plan.sections[6 * s];
+        section[2] = section[4] = section[5] = 1 + section[2] % 2;
+        section[3] = draw.one_in(8);
+    }
+    return draw_rest(draw, plan);
+}
+
+// A ring of 768 points and 256 chords: as many points and sections as there can be, and a forbidden turn at most points that
+// have a chord; at the others there is nothing to pull out over.
+Drawn draw_largest(Draw &draw) {
+    Plan plan{768, {}, {}};
+    const auto join = [&](uint32_t a, uint32_t b) {
+        const uint32_t length = 1 + draw.below(6), kind = draw.one_in(8), section = plan.join(a, b, length, kind);
+        if (draw.one_in(4)) draw_stock(draw, plan, section);
+    };
+    for (uint32_t p = 0; p < 768; p++) join(p, (p + 1) % 768);
+    for (uint32_t p = 0; p < 256; p++) join(p, p + 384);
+    Drawn drawn = draw_rest(draw, plan);
+    const List turns = std::exchange(drawn.plan.turns, {});
+    for (size_t i = 0; i < turns.size(); i += 2) {
+        const uint32_t c = turns[i], s = turns[i + 1], p = s == (c + 1) % 768 ? s : c;
+        if (c >= 768 || s >= 768 || p % 384 < 256) drawn.plan.forbid(c, s);
+    }
+    return drawn;
+}
+
+// Mostly from x to y, or to the other end of x, by a train that stands there; one in eight with a number of any kind.
+Query draw_query(Draw &draw, const Drawn &drawn) {
+    const uint32_t stock = drawn.stock(), any = draw.below(drawn.plan.count() + 2);
+    Query query{draw.one_in(2) ? stock : 1 + draw.below(stock), drawn.x, draw.below(2), drawn.y, draw.below(2)};
+    if (draw.one_in(4)) {
+        query.finish = drawn.x;
+        query.finish_end = 1 - query.start_end;
+    }
+    if (!draw.one_in(8)) return query;
+    switch (draw.below(6)) {
+    case 0: query.length = 0; break;
+    case 1: query.length = any; break;
+    case 2: query.start = any; break;
+    case 3: query.start_end = any; break;
+    case 4: query.finish = any; break;
+    default: query.finish_end = any;
+    }
+    return query;
+}
+
+// How often the random plans gave each refusal, what the walks found had, and how many answers hang on each rule.
+struct Met {
+    uint32_t queries = 0, tied = 0, to_the_start_section = 0, confirmed = 0;
+    std::map<uint32_t, uint32_t> refusals, reversals, steps;
+    std::array<uint32_t, second::no_rule> decided{};
+};
+
+// The second program itself, on tiny yards: it is compared with all walks there are. A shortest walk meets no arrival twice,
+// so that it has fewer than 2E steps.
+void confirm(const std::string &what, const second::Rules &rules, Met &met) {
+    const auto remaining = second::remaining_distances(rules);
+    for (uint32_t arrival = 0; arrival < rules.arrivals(); arrival++) {
+        const auto walks = second::all_walks(rules, arrival, rules.arrivals() - 1);
+        const auto smallest = std::min_element(walks.begin(), walks.end());
+        const bool right =
+            walks.empty() ? remaining[arrival] == second::none : remaining[arrival] == smallest->cost + rules.room();
+        const auto first = arrival == rules.start() ? second::first_shortest(rules) : std::nullopt;
+        const bool first_right = arrival != rules.start() || (walks.empty() ? !first : first == *smallest);
+        if (right && first_right) continue;
+        failed = 1;
+        std::printf("search_test: %s: the second program is wrong at arrival %u\n", what.c_str(), arrival);
+    }
+    met.confirmed++;
+}
+
+void count(const Plan &plan, const Query &query, const SearchAnswer &answer, PullOuts &pull_outs, Met &met) {
+    met.queries++;
+    met.refusals[answer.refusal]++;
+    if (answer.refusal != 0) return;
+    const second::Rules rules(plan, query, pull_outs);
+    met.tied += second::shortest_walks(rules, second::remaining_distances(rules), rules.start()) > 1;
+    met.to_the_start_section += query.start == query.finish;
+    met.reversals[answer.reversals]++;
+    met.steps[answer.steps]++;
+}
+
+// Which rules an answer hangs on: it would be another without them.
+void weigh(const Plan &plan, const Query &query, const SearchAnswer &answer, PullOuts &pull_outs, Met &met) {
+    if (answer.refusal != 0 && answer.refusal != 12) return;
+    const List route = route_of(answer.route.size()), labels = labels_of(answer.labels.size());
+    for (size_t i = 0; i < second::no_rule; i++) {
+        const auto rule = static_cast<second::Rule>(i);
+        met.decided[i] += second::search(plan, query, route, labels, pull_outs, rule) != answer;
+    }
+}
+
+void compare(const std::string &what, Draw &draw, const Plan &plan, const Query &query, PullOuts &pull_outs, Met &met) {
+    const uint32_t right = 2 * plan.count();
+    const List route = route_of(draw.one_in(4) ? draw.below(5) : right + draw.below(3));
+    const List labels = labels_of(draw.one_in(24) ? draw.below(right + 3) : right);
+    const SearchAnswer expected = second::search(plan, query, route, labels, pull_outs);
+    expect(what, call(plan, query, route, labels), expected);
+    count(plan, query, expected, pull_outs, met);
+    weigh(plan, query, expected, pull_outs, met);
+    if (plan.count() <= 6 && second::check_query(plan, query, right).number == 0)
+        confirm(what, second::Rules(plan, query, pull_outs), met);
+}
+
+// The plans are worth comparing: they meet every refusal but 13, which is never given, walks of many kinds, ties, and every
+// rule that can decide. What they met is printed with how often.
+void enough(const Met &met) {
+    const auto some = [](const std::string &what, uint32_t times) {
+        std::printf(" %s: %u", what.c_str(), times);
+        if (times > 0) return;
+        failed = 1;
+        std::printf("\nsearch_test: the random plans never met this\n");
+    };
+    const auto each = [&](std::map<uint32_t, uint32_t> times, std::initializer_list<uint32_t> numbers) {
+        for (uint32_t number : numbers) some(std::to_string(number), times[number]);
+    };
+    std::printf("search_test: %u queries, by refusal", met.queries);
+    each(met.refusals, {0, 1, 2, 3, 4, 5, 6, 7, 8, 9, 10, 11, 12, 14});
+    std::printf("\n  walks by reversals");
+    each(met.reversals, {0, 1, 2});
+    std::printf("\n  walks by steps");
+    each(met.steps, {0, 1, 2, 3, 4, 5, 6, 7});
+    std::printf("\n ");
+    some("walks that are one of several shortest", met.tied);
+    some("walks back to the start section", met.to_the_start_section);
+    some("queries with all walks listed", met.confirmed);
+    std::printf("\n  answers that hang on a rule:\n");
+    for (size_t i = 0; i < second::no_rule; i++) {
+        some("  " + std::string(second::rule_words[i]), met.decided[i]);
+        std::puts("");
+    }
+}
+
+// Short trains, so that the second program can list what may be a pull-out.
+void largest_at_random() {
+    uint32_t walks = 0, reversals = 0;
+    for (uint32_t seed = 1; seed <= 24 && !failed; seed++) {
+        Draw draw(seed);
+        const Drawn drawn = draw_largest(draw);
+        const uint32_t length = std::min(drawn.stock(), 1 + draw.below(3)), start_end = draw.below(2),
+                       finish_end = draw.below(2);
+        PullOuts pull_outs(drawn.plan);
+        const Query query{length, drawn.x, start_end, drawn.y, finish_end};
+        const SearchAnswer expected = second::search(drawn.plan, query, route_of(2048), labels_of(2048), pull_outs);
+        expect("a ring with chords, seed " + std::to_string(seed),
+               call(drawn.plan, query, route_of(2048), labels_of(2048)), expected);
+        walks += expected.refusal == 0;
+        reversals += expected.reversals;
+    }
+    std::printf("search_test: %u walks over rings with chords, with %u reversals\n", walks, reversals);
+    if (walks < 5 || reversals < 20) failed = 1;
+}
+
+// One in eight: the first turn again, the other way round, which the other faults hardly ever give.
+void damage_for_search(Draw &draw, Plan &plan) {
+    if (draw.one_in(8) && !plan.turns.empty()) return plan.forbid(plan.turns[1], plan.turns[0]);
+    for (uint32_t faults = 1 + draw.below(3); faults > 0; faults--) damage(draw, plan);
+}
+
+void against_second_program() {
+    Met met;
+    for (uint32_t seed = 1; seed <= 1200 && !failed; seed++) {
+        const std::string what = "the second program, seed " + std::to_string(seed);
+        Draw draw(seed);
+        const bool tiny = seed % 2 == 0;
+        Drawn drawn = draw_yard(draw, tiny ? 3 + draw.below(4) : 7 + draw.below(6));
+        PullOuts pull_outs(drawn.plan);
+        for (uint32_t i = 0; i < 6; i++) {
+            const Query query = draw_query(draw, drawn);
+            compare(what, draw, drawn.plan, query, pull_outs, met);
+        }
+        const Query query = draw_query(draw, drawn);
+        damage_for_search(draw, drawn.plan);
+        PullOuts of_damaged(drawn.plan);
+        compare(what, draw, drawn.plan, query, of_damaged, met);
+    }
+    if (!failed) enough(met);
 }
 
 } // namespace
@@ -518,6 +793,9 @@ int main() {
     order();
     damaged();
     null_tables();
+    largest();
+    largest_at_random();
+    against_second_program();
     std::puts(failed ? "search_test: failed" : "search_test: good");
     return failed;
 }

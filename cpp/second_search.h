@@ -70,16 +70,32 @@ private:
 struct Step {
     uint32_t from, to;
     uint64_t cost;
-    bool reversal;
+    bool reverses;
+};
+
+// Rules of a step and of an end that can be left out, to see whether an answer hangs on them. That the start section counts
+// as occupied is none of them: stock stands there, so it is not free.
+enum Rule : size_t { another_section, free_section, not_y, reversal, with_pull_out, costs_L, end_not_over_y, no_rule };
+
+inline constexpr std::array<std::string_view, no_rule> rule_words{
+    "a step goes to another section",
+    "a step goes to a free section",
+    "no step goes to the finish section",
+    "a forbidden turn is a reversal",
+    "a reversal needs a pull-out",
+    "a reversal costs L",
+    "no walk ends at an arrival over the finish section",
 };
 
 // The rules of one query that passes 1 to 11: its admissible steps, and where its walks begin and end.
 struct Rules {
     Yard yard;
     Query query;
+    Rule left_out;
     std::vector<Step> steps;
 
-    Rules(const Plan &plan, const Query &asked, PullOuts &pull_outs) : yard(plan), query(asked) {
+    Rules(const Plan &plan, const Query &asked, PullOuts &pull_outs, Rule without = no_rule)
+        : yard(plan), query(asked), left_out(without) {
         for (uint32_t from = 0; from < arrivals(); from++)
             for (uint32_t s = 0; s < yard.sections.size(); s++)
                 if (const auto step = step_onto(from, s, pull_outs)) steps.push_back(*step);
@@ -92,21 +108,24 @@ struct Rules {
 
     // "An arrival at the finish point over a section other than y."
     bool ends(uint32_t arrival) const {
-        return point_of(yard, arrival) == end_point(yard.sections[query.finish], query.finish_end) &&
-               arrival / 2 != query.finish;
+        if (point_of(yard, arrival) != end_point(yard.sections[query.finish], query.finish_end)) return false;
+        return arrival / 2 != query.finish || left_out == end_not_over_y;
     }
 
 private:
     // "A step goes from an arrival over section c at point p to another section s at p, and on to the far end of s. The
-    // section s is free and is not y. The start section counts as occupied throughout."
+    // section s is free and is not y."
     std::optional<Step> step_onto(uint32_t from, uint32_t s, PullOuts &pull_outs) const {
         const uint64_t c = from / 2, p = point_of(yard, from);
         const Section &onto = yard.sections[s];
-        if (s == c || !onto.at(p) || !onto.free() || s == query.finish || s == query.start) return std::nullopt;
+        if (!onto.at(p)) return std::nullopt;
+        if (s == c && left_out != another_section) return std::nullopt;
+        if (!onto.free() && left_out != free_section) return std::nullopt;
+        if (s == query.finish && left_out != not_y) return std::nullopt;
         const uint32_t to = 2 * s + (onto.far(p) == onto.b ? 1 : 0);
-        if (!yard.forbidden(c, s)) return Step{from, to, onto.length, false};
-        if (!pull_outs.exist(yard, {query.length, c, p, s})) return std::nullopt;
-        return Step{from, to, query.length + onto.length, true};
+        if (!yard.forbidden(c, s) || left_out == reversal) return Step{from, to, onto.length, false};
+        if (left_out != with_pull_out && !pull_outs.exist(yard, {query.length, c, p, s})) return std::nullopt;
+        return Step{from, to, (left_out == costs_L ? 0 : query.length) + onto.length, true};
     }
 };
 
@@ -124,7 +143,7 @@ struct Walk {
         longer.cost += step.cost;
         longer.sections.push_back(step.to / 2);
         longer.arrivals.push_back(step.to);
-        longer.reversals += step.reversal;
+        longer.reversals += step.reverses;
         return longer;
     }
 };
@@ -197,10 +216,11 @@ struct SearchAnswer {
 };
 
 // The buffers are those at entry.
-inline SearchAnswer search(const Plan &plan, const Query &query, List route, List labels, PullOuts &pull_outs) {
+inline SearchAnswer search(const Plan &plan, const Query &query, List route, List labels, PullOuts &pull_outs,
+                           Rule left_out = no_rule) {
     const auto refused = [&](const Refusal &r) { return SearchAnswer{r.number, r.place, 0, 0, 0, route, labels}; };
     if (const Refusal refusal = check_query(plan, query, labels.size()); refusal.number != 0) return refused(refusal);
-    const Rules rules(plan, query, pull_outs);
+    const Rules rules(plan, query, pull_outs, left_out);
     const auto remaining = remaining_distances(rules);
     const auto walk = first_shortest(rules);
     if (walk && walk->arrivals.size() > 2048) return refused({13});
