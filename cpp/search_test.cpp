@@ -577,7 +577,7 @@ struct Drawn {
 Drawn draw_rest(Draw &draw, Plan plan) {
     const uint32_t x = draw.below(plan.count()), y = draw.below(plan.count());
     for (uint32_t s : {x, y}) {
-        const uint32_t length = 1 + draw.below(12);
+        const uint32_t length = 1 + draw.below(30);
         plan.sections[6 * s + 2] = length;
         plan.sections[6 * s + 3] = 1;
         plan.occupy(s, length, length);
@@ -756,7 +756,7 @@ void damage_for_search(Draw &draw, Plan &plan) {
 
 void against_second_program() {
     Met met;
-    for (uint32_t seed = 1; seed <= 1200 && !failed; seed++) {
+    for (uint32_t seed = 1; seed <= 1600 && !failed; seed++) {
         const std::string what = "the second program, seed " + std::to_string(seed);
         Draw draw(seed);
         const bool tiny = seed % 2 == 0;

@@ -56,10 +56,10 @@ public:
     explicit PullOuts(const Plan &plan) : ends_(plan) {}
 
     // A pull-out has at most L sections: the lengths of all but the last sum to less than L, and each is 1 or more.
-    bool exist(const Yard &yard, const Turning &turning) {
+    bool exist(const Yard &yard, const Turning &turning, size_t left_out = no_clause) {
         const auto [lists, fresh] = chained_.try_emplace({turning.p, turning.L});
         if (fresh) lists->second = chained_lists(ends_, turning.p, Twice::left_out, turning.L);
-        return first_pull_out(yard, turning, lists->second).has_value();
+        return first_pull_out(yard, turning, lists->second, left_out).has_value();
     }
 
 private:
@@ -75,7 +75,17 @@ struct Step {
 
 // Rules of a step and of an end that can be left out, to see whether an answer hangs on them. That the start section counts
 // as occupied is none of them: stock stands there, so it is not free.
-enum Rule : size_t { another_section, free_section, not_y, reversal, with_pull_out, costs_L, end_not_over_y, no_rule };
+enum Rule : size_t {
+    another_section,
+    free_section,
+    not_y,
+    reversal,
+    with_pull_out,
+    pull_out_not_over_s,
+    costs_L,
+    end_not_over_y,
+    no_rule
+};
 
 inline constexpr std::array<std::string_view, no_rule> rule_words{
     "a step goes to another section",
@@ -83,9 +93,13 @@ inline constexpr std::array<std::string_view, no_rule> rule_words{
     "no step goes to the finish section",
     "a forbidden turn is a reversal",
     "a reversal needs a pull-out",
+    "a pull-out does not use s",
     "a reversal costs L",
     "no walk ends at an arrival over the finish section",
 };
+
+constexpr size_t none_is_s = 4;
+static_assert(clauses[none_is_s].words == "none is s");
 
 // The rules of one query that passes 1 to 11: its admissible steps, and where its walks begin and end.
 struct Rules {
@@ -124,7 +138,8 @@ private:
         if (s == query.finish && left_out != not_y) return std::nullopt;
         const uint32_t to = 2 * s + (onto.far(p) == onto.b ? 1 : 0);
         if (!yard.forbidden(c, s) || left_out == reversal) return Step{from, to, onto.length, false};
-        if (left_out != with_pull_out && !pull_outs.exist(yard, {query.length, c, p, s})) return std::nullopt;
+        const size_t clause = left_out == pull_out_not_over_s ? none_is_s : no_clause;
+        if (left_out != with_pull_out && !pull_outs.exist(yard, {query.length, c, p, s}, clause)) return std::nullopt;
         return Step{from, to, (left_out == costs_L ? 0 : query.length) + onto.length, true};
     }
 };
