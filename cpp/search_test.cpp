@@ -42,11 +42,15 @@ void print(const char *name, const SearchAnswer &answer) {
     std::puts("");
 }
 
+void fail(const std::string &what) {
+    failed = 1;
+    std::printf("search_test: %s\n", what.c_str());
+}
+
 // The five numbers and every entry of both buffers.
 void expect(const std::string &what, const SearchAnswer &got, const SearchAnswer &expected) {
     if (got == expected) return;
-    failed = 1;
-    std::printf("search_test: %s\n", what.c_str());
+    fail(what);
     print("expected", expected);
     print("got", got);
 }
@@ -60,13 +64,11 @@ List filled(size_t entries, uint32_t from) {
 List route_of(size_t entries) { return filled(entries, 3000000000u); }
 List labels_of(size_t entries) { return filled(entries, 4000000000u); }
 
-// A number below 11 leaves both buffers as they were, whatever their lengths; 11 does where the labels have another length
-// than 2E; all others but 12 where it is 2E.
+// Numbers 1 to 10 leave both buffers as they were, whatever their lengths.
 void refuses(const std::string &what, const Plan &plan, const Query &query, uint32_t number, uint32_t place = 0) {
     const size_t right = 2 * plan.count();
     for (size_t entries : {size_t{0}, size_t{1}, size_t{2048}, size_t{2049}})
         for (size_t labels : {size_t{0}, right - 1, right, right + 1}) {
-            if (number == 11 ? labels == right : number > 11 && labels != right) continue;
             const SearchAnswer expected{number, place, 0, 0, 0, route_of(entries), labels_of(labels)};
             expect(what, call(plan, query, route_of(entries), labels_of(labels)), expected);
             expect(what + " (second program)", second::search(plan, query, route_of(entries), labels_of(labels)),
@@ -112,16 +114,11 @@ void finds(const std::string &what, const Plan &plan, const Query &query, const 
                {11, 0, 0, 0, 0, route_of(steps), labels_of(other)});
 }
 
-void finds(const std::string &what, const Plan &plan, const Query &query, const Walk &walk, PullOuts &pull_outs) {
+void finds(const std::string &what, const Plan &plan, const Query &query, const Walk &walk) {
     const auto steps = static_cast<uint32_t>(walk.arrivals.size());
-    const SearchAnswer answer = second::search(plan, query, route_of(steps), labels_of(2 * plan.count()), pull_outs);
+    const SearchAnswer answer = second::search(plan, query, route_of(steps), labels_of(2 * plan.count()));
     expect(what + " (second program)", answer, {0, 0, walk.total, walk.reversals, steps, walk.arrivals, answer.labels});
     finds(what, plan, query, walk, answer.labels);
-}
-
-void finds(const std::string &what, const Plan &plan, const Query &query, const Walk &walk) {
-    PullOuts pull_outs(plan);
-    finds(what, plan, query, walk, pull_outs);
 }
 
 Plan with(Plan plan, const std::function<void(Plan &)> &change) {
@@ -155,10 +152,11 @@ void no_steps() {
     finds("three points", plan, {200, 0, 1, 1, 0}, {1000, 0, {}});
     no_walk("three points, entering by the far end", plan, {200, 0, 1, 1, 1});
     no_walk("three points, leaving by the far end", plan, {200, 0, 0, 1, 0});
+    List labels = labels_of(4);
     const finder_answer a = finder_search(plan.points, plan.sections.data(), plan.sections.size(), nullptr, 0, 200, 0,
-                                          1, 1, 0, nullptr, 0, labels_of(4).data(), 4);
-    expect("no steps, a null route buffer", {a.refusal, a.place, a.total, a.reversals, a.steps, {}, {}},
-           {0, 0, 1000, 0, 0, {}, {}});
+                                          1, 1, 0, nullptr, 0, labels.data(), labels.size());
+    expect("no steps, a null route buffer", {a.refusal, a.place, a.total, a.reversals, a.steps, {}, labels},
+           {0, 0, 1000, 0, 0, {}, {none, 900, none, none}});
 }
 
 // Document 003's lengths are in metres; a section's stock is what it leaves free from end A and from end B.
@@ -182,8 +180,7 @@ void paper_examples() {
     const auto to = [&](uint32_t start_end, uint32_t finish_end, uint32_t metres) {
         const SearchAnswer a = call(example_4, {200, 5, start_end, 3, finish_end}, route_of(2048), labels_of(48));
         if (a.refusal == 0 && a.total == 10 * metres - 200 + 2800) return;
-        failed = 1;
-        std::printf("search_test: Example 4, ends %u and %u\n", start_end, finish_end);
+        fail("Example 4: " + std::to_string(metres) + " m");
         print("got", a);
     };
     to(1, 0, 1100);
@@ -212,8 +209,7 @@ void paper_table() {
             const uint32_t metres = cleared ? 0 : paper_table_9[i][j];
             const uint32_t total = metres == 0 ? 0 : 10 * metres - 1200 + paper_yard.sections[6 * y + 2];
             if (expected.total == total && expected.refusal == (metres == 0 ? 12 : 0)) continue;
-            failed = 1;
-            std::printf("search_test: %s: %u metres by the paper\n", what.c_str(), metres);
+            fail(what + ": " + std::to_string(metres) + " m by the paper");
             print("second program", expected);
         }
 }
@@ -258,9 +254,9 @@ void over_the_finish_section() {
     plan.join(3, 4, 100);
     plan.join(3, 5, 200);
     plan.join(4, 5, 400);
-    no_walk("behind y is a balloon: only over y, and back to its end over another section", plan, {30, 0, 1, y, 1});
-    const SearchAnswer a = second::search(plan, {30, 0, 1, y, 1}, route_of(0), labels_of(12));
-    if (a.labels[2 * y + 1] != 750) std::printf("search_test: label over y %u\n", a.labels[2 * y + 1]), failed = 1;
+    no_walk("from over y only round the balloon", plan, {30, 0, 1, y, 1});
+    no_walk("from over y only round the balloon, labels", plan, {30, 0, 1, y, 1},
+            {none, none, none, none, none, 750, 50, 650, 50, 550, 150, 250});
     plan.points = 7;
     plan.join(2, 6, 1000);
     no_walk("a way that leads nowhere", plan, {30, 0, 1, y, 1});
@@ -553,7 +549,7 @@ void largest() {
     const Query query{20000, 0, 1, 765, 0};
     const SearchAnswer expected = second::search(plan, query, route_of(2048), labels_of(2048));
     expect("768 points and 1,024 sections", call(plan, query, route_of(2048), labels_of(2048)), expected);
-    if (expected.steps < 380) std::puts("search_test: the walk over the ladder is short"), failed = 1;
+    if (expected.steps < 380) fail("the walk over the ladder is short");
     plan.join(0, 767, 1);
     refuses("1,025 sections", plan, query, 1);
     plan = ladder(384, 258, 200000);
@@ -659,9 +655,7 @@ void confirm(const std::string &what, const second::Rules &rules, Met &met) {
             walks.empty() ? remaining[arrival] == second::none : remaining[arrival] == smallest->cost + rules.room();
         const auto first = arrival == rules.start() ? second::first_shortest(rules) : std::nullopt;
         const bool first_right = arrival != rules.start() || (walks.empty() ? !first : first == *smallest);
-        if (right && first_right) continue;
-        failed = 1;
-        std::printf("search_test: %s: the second program is wrong at arrival %u\n", what.c_str(), arrival);
+        if (!right || !first_right) fail(what + ": not the smallest of all walks, arrival " + std::to_string(arrival));
     }
     met.confirmed++;
 }
@@ -704,23 +698,21 @@ void compare(const std::string &what, Draw &draw, const Plan &plan, const Query 
 void enough(const Met &met) {
     const auto some = [](const std::string &what, uint32_t times) {
         std::printf(" %s: %u", what.c_str(), times);
-        if (times > 0) return;
-        failed = 1;
-        std::printf("\nsearch_test: the random plans never met this\n");
+        if (times == 0) fail("the random plans never met this");
     };
     const auto each = [&](std::map<uint32_t, uint32_t> times, std::initializer_list<uint32_t> numbers) {
         for (uint32_t number : numbers) some(std::to_string(number), times[number]);
     };
     std::printf("search_test: %u queries, by refusal", met.queries);
     each(met.refusals, {0, 1, 2, 3, 4, 5, 6, 7, 8, 9, 10, 11, 12, 14});
-    std::printf("\n  walks by reversals");
+    std::printf(" 13: %zu\n  walks by reversals", met.refusals.count(13));
     each(met.reversals, {0, 1, 2});
     std::printf("\n  walks by steps");
     each(met.steps, {0, 1, 2, 3, 4, 5, 6, 7});
-    std::printf("\n ");
-    some("walks that are one of several shortest", met.tied);
-    some("walks back to the start section", met.to_the_start_section);
-    some("queries with all walks listed", met.confirmed);
+    std::puts("");
+    some(" walks that are one of several shortest", met.tied);
+    some("\n  walks back to the start section", met.to_the_start_section);
+    some("\n  queries with all walks listed", met.confirmed);
     std::printf("\n  answers that hang on a rule:\n");
     for (size_t i = 0; i < second::no_rule; i++) {
         some("  " + std::string(second::rule_words[i]), met.decided[i]);
@@ -745,7 +737,7 @@ void largest_at_random() {
         reversals += expected.reversals;
     }
     std::printf("search_test: %u walks over rings with chords, with %u reversals\n", walks, reversals);
-    if (walks < 5 || reversals < 20) failed = 1;
+    if (walks < 5 || reversals < 20) fail("too few walks over rings with chords");
 }
 
 // One in eight: the first turn again, the other way round, which the other faults hardly ever give.
