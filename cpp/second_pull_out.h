@@ -177,16 +177,17 @@ constexpr size_t no_clause = clauses.size();
 
 // Every list of 1 to E sections of which the first is entered at p and each next at the far end of the one before; in a
 // longer list some section occurs twice. Lists in which one does can be left out on the way: so does it however they go on.
+// Lists of more sections than can matter can be left out too.
 enum class Twice { listed, left_out };
 
-inline std::vector<List> chained_lists(const Yard &yard, uint64_t p, Twice twice) {
+inline std::vector<List> chained_lists(const Yard &yard, uint64_t p, Twice twice, size_t most = 1024) {
     struct Chained {
         List list;
         uint64_t end;
     };
     std::vector<List> all;
     std::vector<Chained> longest{{{}, p}};
-    for (size_t length = 1; length <= yard.sections.size(); length++) {
+    for (size_t length = 1; length <= std::min(most, yard.sections.size()); length++) {
         std::vector<Chained> longer;
         for (const auto &[list, end] : longest)
             for (uint32_t q = 0; q < yard.sections.size(); q++) {

@@ -36,6 +36,11 @@ extern "C" {
 #define FINDER_TRAIN_MOST 20000
 /* A pull-out has at most so many sections: each is entered at a point of its own. */
 #define FINDER_PULL_OUT_MOST 768
+/* There are two arrivals for each section, and so many labels; a label is a remaining distance or "none". */
+#define FINDER_ARRIVALS_MOST 2048
+#define FINDER_NONE 4294967295u
+/* A walk that is handed out has at most so many steps. */
+#define FINDER_STEPS_MOST 2048
 /* How many numbers a section and a turn have in their tables. */
 #define FINDER_SECTION_WIDTH 6
 #define FINDER_TURN_WIDTH 2
@@ -51,6 +56,12 @@ enum finder_refusal {
     FINDER_TURN = 5,          /* not two different connecting sections that share a point; place: the turn */
     FINDER_SECOND_TURN = 6,   /* an earlier turn has the same point; place: the turn */
     FINDER_TRAIN = 7,         /* the train's length is not 1 to 20,000 */
+    FINDER_START = 8,         /* start: no such section or end, a connecting section, or the train does not stand there */
+    FINDER_FINISH = 9,        /* finish: no such section or end, a connecting section, or the start's section and end */
+    FINDER_FINISH_ROOM = 10,  /* the finish room is less than the train's length */
+    FINDER_LABELS = 11,       /* the label buffer has not two entries for each section */
+    FINDER_NO_ROUTE = 12,     /* there is no admissible walk */
+    FINDER_STEPS = 13,        /* the walk would have more than 2,048 steps; never given */
     FINDER_ROOM = 14,         /* the answer has more entries than the lent buffer */
     FINDER_NO_TURN = 15,      /* pull-out: no such arrival or section, or no forbidden turn between them at the arrival's point */
     FINDER_NO_PULL_OUT = 16   /* there is no pull-out */
@@ -67,6 +78,40 @@ typedef struct {
  * (finder_check_plan's contract in crates/finder/src/lib.rt). */
 finder_answer finder_check_plan(uint32_t points, const uint32_t *sections, size_t sections_len, const uint32_t *turns,
                                 size_t turns_len);
+
+/* Finds the shortest admissible walk of one train from its start to its finish, reversals included: of all shortest walks
+ * the one whose list of section numbers is smallest; and the remaining distance of every arrival.
+ *   length      the train's length, 1 to 20,000 decimetres
+ *   start       the section on which the train stands, a destination; the train is the stock nearest the start end
+ *   start_end   the end by which it leaves, 0 for A, 1 for B
+ *   finish      the section that it is to enter, a destination
+ *   finish_end  the end by which it enters, 0 for A, 1 for B
+ *   route       on success its front holds the arrivals, one for each step, without that of the start; the rest keeps its
+ *               contents. FINDER_STEPS_MOST entries are always enough
+ *   labels      two entries for each section. On success and with 12 entry a is the remaining distance of arrival a, the
+ *               least sum of costs and finish room from there, or FINDER_NONE
+ * Refusals, in this order:
+ *   1 to 6      as in finder_check_plan, with their places; all others have place 0
+ *   7           the length is out of range
+ *   8           start or start_end is out of range, the section is connecting, or less than the length stands there
+ *   9           finish or finish_end is out of range, the section is connecting, or both are those of the start
+ *   10          the finish room, the free length from the finish end, is less than the length. Where finish is start and
+ *               nothing but the train stands there, the room is the whole section
+ *   11          labels_len is not twice the number of sections
+ *   12          there is no admissible walk; the labels are written, the route buffer is left as it was
+ *   13          the walk has more than 2,048 steps; this is never given
+ *   14          the walk has more steps than route_len
+ * A call refused with any number but 12 writes nothing. Success gives the total in decimetres (the free length at the
+ * start end, the costs and the finish room), the reversals and the steps; a walk may have no steps.
+ * It looks for pull-outs: what finder_pull_out takes of stack and time holds here too, docs/LIMITS.md.
+ * Proved: a walk handed out is admissible, none is shorter, and among equals it is the first by section numbers; 12 is
+ * given exactly when 1 to 11 are not and no admissible walk exists; the labels are the remaining distances; 13 is never
+ * given (finder_search's contract in crates/finder/src/lib.rt; theorems answer-unique and never-13 in
+ * crates/rules/proofs/SearchAnswers.antt). */
+finder_answer finder_search(uint32_t points, const uint32_t *sections, size_t sections_len, const uint32_t *turns,
+                            size_t turns_len, uint32_t length, uint32_t start, uint32_t start_end, uint32_t finish,
+                            uint32_t finish_end, uint32_t *route, size_t route_len, uint32_t *labels,
+                            size_t labels_len);
 
 /* The refusal and its place; the number of sections written. With a refusal the number is 0. */
 typedef struct {
