@@ -106,8 +106,8 @@ finder_answer finder_check_plan(uint32_t points, const uint32_t *sections, size_
  * It looks for pull-outs: what finder_pull_out takes of stack and time holds here too, docs/LIMITS.md.
  * Proved: a walk handed out is admissible, none is shorter, and among equals it is the first by section numbers; 12 is
  * given exactly when 1 to 11 are not and no admissible walk exists; the labels are the remaining distances; 13 is never
- * given (finder_search's contract in crates/finder/src/lib.rt; theorems answer-unique and never-13 in
- * crates/rules/proofs/SearchAnswers.antt). */
+ * given (finder_search's contract in crates/finder/src/lib.rt; theorems handed-out-walk, handed-out-shortest,
+ * handed-out-first, twelve-none, none-twelve, labels-right, never-13 and answer-unique in crates/rules/proofs). */
 finder_answer finder_search(uint32_t points, const uint32_t *sections, size_t sections_len, const uint32_t *turns,
                             size_t turns_len, uint32_t length, uint32_t start, uint32_t start_end, uint32_t finish,
                             uint32_t finish_end, uint32_t *route, size_t route_len, uint32_t *labels,
