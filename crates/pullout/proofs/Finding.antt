@@ -1,7 +1,6 @@
 -- The tries that begin at p are those of the pull-outs for (c, p, s).
 -- Assumes nothing.
 use mathlib.Core.Path.{_≡_, refl, _∙_}
-use mathlib.Core.Bool.{Bool}
 use mathlib.Core.List.{List, _++_}
 use Prim.Native.Nat.{ℕ, _+_, _≤_, _<_}
 use native.Mathlib.Omega.{arith}
@@ -9,7 +8,8 @@ use lib.ListN.{length, drop}
 use lib.Seq.{sets-eq}
 use Rattle.rules.specs.Plan.{plan-of}
 use Rattle.rules.specs.PullOut.{any-section}
-use Rattle.rules.proofs.Ways.{may-use, only, Fits, Way, last, next, fewer-marks}
+use Rattle.rules.proofs.Ways.{may-use, only, Way, fewer-marks}
+use Rattle.rules.proofs.AnyPoints.{way-points}
 use Rattle.rules.proofs.PullWays.{first-pull, no-pull}
 use Rattle.pullout.specs.declared.marks.Try.{Try}
 use Rattle.pullout.specs.Marks.{Begun}
@@ -21,15 +21,6 @@ use Rattle.pullout.specs.Searched.{Searched, none-there, first-there, Su
 use Rattle.pullout.proofs.Reach.{held-first, held-marks}
 use Rattle.pullout.proofs.Unknown.{unknown-right, unknown-begins}
 use Rattle.pullout.proofs.Entering.{passed-joined}
-
--- a way does not ask how many points the plan has
-module _ {ss ts : List ℕ} {may : ℕ → Bool} (v w : ℕ) where
-  fits-points : {c p q : ℕ} → Fits (plan-of v ss ts) may c p q → Fits (plan-of w ss ts) may c p q
-  fits-points f = record { inside = f .inside; touch = f .touch; turn = f .turn; other = f .other; usable = f .usable }
-
-  way-points : {r c p : ℕ} {marks : ℕ → Bool} {qs : List ℕ} → Way (plan-of v ss ts) may r c p marks qs → Way (plan-of w ss ts) may r c p marks qs
-  way-points (last f e) = last (fits-points f) e
-  way-points (next f e l n k) = next (fits-points f) e l n (way-points k)
 
 -- t is the first try for the length n
 module _ {ss ts : List ℕ} (c s : ℕ) {p n : ℕ} {t : Try} (begun : Begun p n t) where

@@ -59,40 +59,41 @@ module _ {ss ts : List ℕ} {c s : ℕ} {t : Try} {h p e q n : ℕ} (g : GoesOn 
         (held-on (passed-joined ok) (b .right) (a .inside) (a .touch) (b .held) (g .enters) (g .free) shorter (rw (g .far) at (g .new))) in
         record { right = b .right; held = held-marks more u }
 
--- what a try at p looks for begins with one of the sections in p's slots
+-- a way from p begins with one of the sections in p's slots
+pub in-slots : {ss ts slots table : List ℕ} → Tables ss ts slots table → (c s : ℕ) {n h p x y z : ℕ} {marks : ℕ → Bool} → x ≡ getD slots (3 * p + 0) 0
+    → y ≡ getD slots (3 * p + 1) 0 → z ≡ getD slots (3 * p + 2) 0 → (qs : List ℕ) → Way (plan-of 0 ss ts) (may-use any-section c s) n h p marks qs
+    → Heads x qs ⊎ (Heads y qs ⊎ Heads z qs)
+in-slots {ss} {ts} tables c s {n} {h} {p} {x} {y} {z} {marks} i j k qs w = go qs w
+  where
+    at : (q : ℕ) → Enters ss ts c s h p q → (q ≡ x) ⊎ ((q ≡ y) ⊎ (q ≡ z))
+    at q f =
+        let ok = tables .checked in
+        ⊎-elim (λ e. inl (e ∙ sym i)) (⊎-elim (λ e. inr (inl (e ∙ sym j))) (λ e. inr (inr (e ∙ sym k))))
+        (in-slot (passed-joined ok) (passed-three ok) (tables .slotted) q p (f .inside) (f .touch))
+
+    go : (qs : List ℕ) → Way (plan-of 0 ss ts) (may-use any-section c s) n h p marks qs → Heads x qs ⊎ (Heads y qs ⊎ Heads z qs)
+    go qs (last {q} f e) = at q f
+    go qs (next {q} f e l m v) = at q f
+
 module _ {ss ts slots table : List ℕ} (tables : Tables ss ts slots table) {h p : ℕ} (a : Arrived ss h p) where
   pub slots-ascend : (j k : ℕ) {x y : ℕ} → j < k → k < 3 → x ≡ getD slots (3 * p + j) 0 → y ≡ getD slots (3 * p + k) 0 → x ≤ y
   slots-ascend j k l m e f =
       let ok = tables .checked in
       omega (arith, ascending (passed-joined ok) (passed-three ok) (tables .slotted) p j k (arrived-low ok a) l m)
 
-  pub all-slots : (c s : ℕ) (t : Try) {x y z : ℕ} → x ≡ getD slots (3 * p + 0) 0 → y ≡ getD slots (3 * p + 1) 0 → z ≡ getD slots (3 * p + 2) 0
-      → (qs : List ℕ) → Goes ss ts c s t h p qs → Heads x qs ⊎ (Heads y qs ⊎ Heads z qs)
-  all-slots c s t {x} {y} {z} i j k qs w = go qs w
-    where
-      at : (q : ℕ) → Enters ss ts c s h p q → (q ≡ x) ⊎ ((q ≡ y) ⊎ (q ≡ z))
-      at q f =
-          let ok = tables .checked in
-          ⊎-elim (λ e. inl (e ∙ sym i)) (⊎-elim (λ e. inr (inl (e ∙ sym j))) (λ e. inr (inr (e ∙ sym k))))
-          (in-slot (passed-joined ok) (passed-three ok) (tables .slotted) q p (f .inside) (f .touch))
-
-      go : (qs : List ℕ) → Goes ss ts c s t h p qs → Heads x qs ⊎ (Heads y qs ⊎ Heads z qs)
-      go qs (last {q} f e) = at q f
-      go qs (next {q} f e l n v) = at q f
-
   -- so the tries of its three sections, in their order, make the try of the point
   module _ (c s : ℕ) (t : Try) {b : List ℕ} {d x : ℕ} (i : x ≡ getD slots (3 * p + 0) 0) where
     pub point-first : {n : ℕ} {o : List ℕ} → Tried (Over (Goes ss ts c s t h p) x) b d n o → n ≢ 0 → Tried (Goes ss ts c s t h p) b d n o
     point-first =
-        found-first (all-slots c s t i refl refl) (slots-ascend 0 1 (omega arith) (omega arith) i refl) (slots-ascend 1 2 (omega arith) (omega arith) refl refl)
+        found-first (in-slots tables c s i refl refl) (slots-ascend 0 1 (omega arith) (omega arith) i refl) (slots-ascend 1 2 (omega arith) (omega arith) refl refl)
 
     pub point-second : {y n m : ℕ} {o u : List ℕ} → y ≡ getD slots (3 * p + 1) 0 → Tried (Over (Goes ss ts c s t h p) x) b d n o → n ≡ 0
         → Tried (Over (Goes ss ts c s t h p) y) o d m u → m ≢ 0 → Tried (Goes ss ts c s t h p) b d m u
     point-second j =
-        found-second (all-slots c s t i j refl) (slots-ascend 0 1 (omega arith) (omega arith) i j) (slots-ascend 1 2 (omega arith) (omega arith) j refl)
+        found-second (in-slots tables c s i j refl) (slots-ascend 0 1 (omega arith) (omega arith) i j) (slots-ascend 1 2 (omega arith) (omega arith) j refl)
 
     pub point-third : {y z n m l : ℕ} {o u v : List ℕ} → y ≡ getD slots (3 * p + 1) 0 → z ≡ getD slots (3 * p + 2) 0
         → Tried (Over (Goes ss ts c s t h p) x) b d n o → n ≡ 0 → Tried (Over (Goes ss ts c s t h p) y) o d m u → m ≡ 0
         → Tried (Over (Goes ss ts c s t h p) z) u d l v → Tried (Goes ss ts c s t h p) b d l v
     point-third j k q w r o f =
-        tried-third (all-slots c s t i j k) (slots-ascend 0 1 (omega arith) (omega arith) i j) (slots-ascend 1 2 (omega arith) (omega arith) j k) q w r o f
+        tried-third (in-slots tables c s i j k) (slots-ascend 0 1 (omega arith) (omega arith) i j) (slots-ascend 1 2 (omega arith) (omega arith) j k) q w r o f

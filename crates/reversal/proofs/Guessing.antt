@@ -1,7 +1,7 @@
 -- What the tests of a glance come to, and how a guess is made of others: over a section, and over the sections of a point.
 -- Assumes nothing.
-use mathlib.Core.Path.{_≡_, refl, sym, _∙_}
-use mathlib.Core.Logic.{_⊎_, ⊎-elim, inl, inr}
+use mathlib.Core.Path.{_≡_, refl}
+use mathlib.Core.Logic.{_⊎_, ⊎-elim}
 use mathlib.Core.Bool.{Bool, true, false, not}
 use mathlib.Core.List.{List, [], _∷_}
 use Prim.Native.Nat.{ℕ, _+_, _-_, _*_, _≤_, _<_}
@@ -11,14 +11,14 @@ use lib.ListN.{getD}
 use Rattle.rules.specs.Plan.{plan-of, len, is-free, far, free-from}
 use Rattle.rules.specs.PullOut.{any-section}
 use Rattle.rules.proofs.Tests.{clash, says-true, says-false}
-use Rattle.rules.proofs.Ways.{may-use, mark, Way, last, next, free-whole, way-fits, way-onward}
+use Rattle.rules.proofs.Ways.{may-use, mark, Way, free-whole, way-fits, way-onward}
 use Rattle.pullout.specs.declared.look.Look.the-variants.{Shut, On}
 use Rattle.pullout.specs.Tables.{Tables}
 use Rattle.pullout.specs.Looked.{Enters}
 use Rattle.pullout.specs.Tried.{Heads, Over}
 use Rattle.pullout.proofs.Reach.{at-far}
-use Rattle.pullout.proofs.Entering.{passed-joined, passed-three, entry, entry-T, T-entry}
-use Rattle.pullout.proofs.ThreeSlots.{in-slot}
+use Rattle.pullout.proofs.Entering.{entry, entry-T, T-entry}
+use Rattle.pullout.proofs.Going.{in-slots}
 use Rattle.reversal.specs.Guessed.{Takes, Glanced, Guessed}
 
 -- a glance at section e
@@ -91,19 +91,6 @@ guess-three all f g h =
 -- the lists from p on begin with one of the sections in p's slots
 module _ {ss ts slots table : List ℕ} (tables : Tables ss ts slots table) (c s n h p : ℕ) {x y z : ℕ} (i : x ≡ getD slots (3 * p + 0) 0)
     (j : y ≡ getD slots (3 * p + 1) 0) (k : z ≡ getD slots (3 * p + 2) 0) where
-  in-slots : (qs : List ℕ) → Takes ss ts c s n h p qs → Heads x qs ⊎ (Heads y qs ⊎ Heads z qs)
-  in-slots qs w = go qs (w .way)
-    where
-      at : (q : ℕ) → Enters ss ts c s h p q → (q ≡ x) ⊎ ((q ≡ y) ⊎ (q ≡ z))
-      at q f =
-          let ok = tables .checked in
-          ⊎-elim (λ e. inl (e ∙ sym i)) (⊎-elim (λ e. inr (inl (e ∙ sym j))) (λ e. inr (inr (e ∙ sym k))))
-          (in-slot (passed-joined ok) (passed-three ok) (tables .slotted) q p (f .inside) (f .touch))
-
-      go : {marks : ℕ → Bool} (qs : List ℕ) → Way (plan-of 0 ss ts) (may-use any-section c s) n h p marks qs → Heads x qs ⊎ (Heads y qs ⊎ Heads z qs)
-      go qs (last {q} f e) = at q f
-      go qs (next {q} f e l u v) = at q f
-
   pub guess-slots : {budget a b d : ℕ} → Guessed (Over (Takes ss ts c s n h p) x) budget a → Guessed (Over (Takes ss ts c s n h p) y) a b
       → Guessed (Over (Takes ss ts c s n h p) z) b d → Guessed (Takes ss ts c s n h p) budget d
-  guess-slots = guess-three in-slots
+  guess-slots = guess-three (λ qs w. in-slots tables c s i j k qs (w .way))

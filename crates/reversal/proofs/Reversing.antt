@@ -9,7 +9,8 @@ use native.Mathlib.Omega.{arith}
 use lib.Dec.{eqb}
 use Rattle.rules.specs.Plan.{Plan, plan-of}
 use Rattle.rules.specs.PullOut.{PullOut, NoPullOut, any-section}
-use Rattle.rules.proofs.Ways.{may-use, only, Fits, Way, last, next, fewer-marks}
+use Rattle.rules.proofs.Ways.{may-use, only, Way, fewer-marks}
+use Rattle.rules.proofs.AnyPoints.{way-points}
 use Rattle.rules.proofs.PullWays.{way-pull, no-pull}
 use Rattle.pullout.specs.declared.marks.Try.{Try}
 use Rattle.pullout.specs.Marks.{Begun}
@@ -26,15 +27,6 @@ reverses-true (can-not n) e = absurd (false≢true e)
 pub reverses-false : {y : Plan} {need c p s : ℕ} {r : Bool} → Reverses y need c p s r → r ≡ false → NoPullOut y any-section need c p s
 reverses-false (can qs w) e = absurd (true≢false e)
 reverses-false (can-not n) e = n
-
--- a way does not ask how many points the plan has
-module _ {ss ts : List ℕ} {may : ℕ → Bool} (v w : ℕ) where
-  fits-points : {c p q : ℕ} → Fits (plan-of v ss ts) may c p q → Fits (plan-of w ss ts) may c p q
-  fits-points f = record { inside = f .inside; touch = f .touch; turn = f .turn; other = f .other; usable = f .usable }
-
-  way-points : {r c p : ℕ} {marks : ℕ → Bool} {qs : List ℕ} → Way (plan-of v ss ts) may r c p marks qs → Way (plan-of w ss ts) may r c p marks qs
-  way-points (last f e) = last (fits-points f) e
-  way-points (next f e l n k) = next (fits-points f) e l n (way-points k)
 
 module _ {ss ts : List ℕ} {n c p s : ℕ} where
   -- the first try goes over the list to its end

@@ -20,6 +20,7 @@ pub mod Ways
 pub mod PullWays
 pub mod TurnPoints
 pub mod PullSwap
+pub mod AnyPoints
 pub mod Smallest
 pub mod PullSearch
 pub mod StepTests

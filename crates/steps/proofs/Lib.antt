@@ -6,6 +6,5 @@ pub mod TwoOthers
 pub mod Rows
 pub mod Filling
 pub mod Marking
-pub mod AnyPoints
 pub mod Serving
 pub mod Reversing

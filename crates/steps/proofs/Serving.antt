@@ -16,13 +16,13 @@ use Rattle.rules.specs.PullOut.{PullOut, NoPullOut, any-section}
 use Rattle.rules.proofs.Tests.{clash, T-or-left, T-or-right, says-false}
 use Rattle.rules.proofs.Sound.{SoundPlan, sound-plan}
 use Rattle.rules.proofs.TurnPoints.{is-turn, turn-cases, turn-there}
+use Rattle.rules.proofs.AnyPoints.{pull-points, barred-points}
 use Rattle.rules.proofs.PullSwap.{Barred, barred-back, swapped}
 use Rattle.plan.proofs.Known.{plan-turned}
 use Rattle.pullout.specs.Tables.{Passes, Arrived}
 use Rattle.reversal.specs.Reverses.{Reverses}
 use Rattle.reversal.proofs.Reversing.{reverses-true, reverses-false}
 use Rattle.steps.specs.Served.{TurnServed, Served}
-use Rattle.steps.proofs.AnyPoints.{pull-points, barred-points}
 
 -- the answer for turn t, whose sections and point were read as c, s and p
 module _ {y : Plan} (may : ℕ → Bool) {need t c s : ℕ} (ic : c ≡ turn-section y t 0) (is : s ≡ turn-section y t 1) where

@@ -1,11 +1,12 @@
--- A pull-out does not ask how many points the plan has.
+-- A pull-out does not ask how many points the plan has, nor does a way.
 -- Assumes nothing.
 use mathlib.Core.Bool.{Bool}
 use mathlib.Core.List.{List}
 use Prim.Native.Nat.{ℕ}
 use Rattle.rules.specs.Plan.{plan-of}
 use Rattle.rules.specs.PullOut.{Chain, chain, chain-end, Turns, turns, turns-end, PullOut}
+use Rattle.rules.proofs.Ways.{Fits, Way, last, next}
 use Rattle.rules.proofs.PullSwap.{Barred}
 
 module _ {ss ts : List ℕ} (v w : ℕ) where
   chain-points : {p : ℕ} {qs : List ℕ} → Chain (plan-of v ss ts) p qs → Chain (plan-of w ss ts) p qs
@@ -43,3 +44,11 @@ module _ {ss ts : List ℕ} (v w : ℕ) where
         s-touch = b .s-touch;
         turn = b .turn;
       }
+
+  module _ {may : ℕ → Bool} where
+    fits-points : {c p q : ℕ} → Fits (plan-of v ss ts) may c p q → Fits (plan-of w ss ts) may c p q
+    fits-points f = record { inside = f .inside; touch = f .touch; turn = f .turn; other = f .other; usable = f .usable }
+
+    pub way-points : {r c p : ℕ} {marks : ℕ → Bool} {qs : List ℕ} → Way (plan-of v ss ts) may r c p marks qs → Way (plan-of w ss ts) may r c p marks qs
+    way-points (last f e) = last (fits-points f) e
+    way-points (next f e l n k) = next (fits-points f) e l n (way-points k)
