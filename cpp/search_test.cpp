@@ -698,7 +698,9 @@ void compare(const std::string &what, Draw &draw, const Plan &plan, const Query 
 void enough(const Met &met) {
     const auto some = [](const std::string &what, uint32_t times) {
         std::printf(" %s: %u", what.c_str(), times);
-        if (times == 0) fail("the random plans never met this");
+        if (times > 0) return;
+        std::puts("");
+        fail("the random plans never met this");
     };
     const auto each = [&](std::map<uint32_t, uint32_t> times, std::initializer_list<uint32_t> numbers) {
         for (uint32_t number : numbers) some(std::to_string(number), times[number]);
