@@ -1,23 +1,20 @@
 -- The answers of the search, one law for each of its ends.
 -- Assumes nothing.
-use mathlib.Core.Path.{_≡_, refl, sym, ap, _∙_}
+use mathlib.Core.Path.{_≡_, refl, _∙_}
 use mathlib.Core.Logic.{_≢_}
-use mathlib.Core.Bool.{Bool, true, not}
 use mathlib.Core.List.{List, [], _∷_, _++_, append-nil}
 use Prim.Native.Nat.{ℕ, _+_, _≤_, _<_}
 use native.Mathlib.Omega.{arith}
-use lib.Dec.{eqb, ltb}
+use lib.Dec.{ltb}
 use lib.ListN.{length, getD, take, drop}
 use lib.Seq.{getD-take, drop-length, length-take-le}
-use Rattle.rules.specs.Plan.{arrivals}
 use Rattle.rules.specs.Refusals.{passed, refused-at, once, verdict}
-use Rattle.rules.specs.PlanCheck.{plan-checks}
-use Rattle.rules.specs.Query.{Query, start-arrival, first-distance, train-checks, query-checks}
+use Rattle.rules.specs.Query.{Query, start-arrival, first-distance}
 use Rattle.rules.specs.Net.{no-distance, Walk, distance, FirstShortest, NoWalk, Remaining, no-walk, by-walk}
 use Rattle.rules.specs.Trip.{query-net, total, walk-reversals}
-use Rattle.rules.specs.Search.{refusal, success, Labelled, walk-checks, Answer, refused, no-route, unwritten, found}
+use Rattle.rules.specs.Search.{refusal, Labelled, walk-checks, Answer, refused, no-route, unwritten, found}
 use Rattle.rules.proofs.Tests.{tests}
-use Rattle.rules.proofs.Verdicts.{refuses-once, passes-once, passes, accepts, passes-both}
+use Rattle.rules.proofs.Verdicts.{refuses-once, passes-once}
 use Rattle.rules.proofs.Walks.{remaining-unique}
 use Rattle.rules.proofs.Sound.{sound, label-length}
 use Rattle.rules.proofs.Trips.{start-inside, query-few-steps, total-below}

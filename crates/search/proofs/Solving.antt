@@ -1,16 +1,15 @@
 -- The labels of a table and the walk over it solve the query whose steps the table lists (`solved-query`).
 -- Assumes nothing.
-use mathlib.Core.Path.{_≡_, refl, sym, _∙_}
+use mathlib.Core.Path.{_≡_, _∙_}
 use mathlib.Core.Logic.{_≢_}
-use mathlib.Core.List.{List, _++_}
+use mathlib.Core.List.{List}
 use Prim.Native.Nat.{ℕ, _≤_, _<_}
 use native.Mathlib.Omega.{arith}
 use lib.ListN.{length, getD, drop, length-append}
 use lib.Seq.{take-append-seam}
 use Rattle.rules.specs.Plan.{arrivals}
 use Rattle.rules.specs.Query.{Query, start-arrival, finish-room}
-use Rattle.rules.specs.Net.{no-distance, Net, FirstShortest}
-use Rattle.rules.specs.Trip.{trip-of}
+use Rattle.rules.specs.Net.{no-distance, Net}
 use Rattle.rules.proofs.Alike.{Within, same-remaining, same-first}
 use Rattle.rules.proofs.Sound.{Sound}
 use Rattle.rules.proofs.Trips.{sound-trip}
@@ -18,7 +17,7 @@ use Rattle.rules.proofs.Lists.{any-default}
 use Rattle.distance.specs.Table.{table-net, Table}
 use Rattle.distance.specs.Answer.{Labels, Written}
 use Rattle.steps.specs.Listing.{Listing}
-use Rattle.search.specs.Solved.{Known, Chosen, SolvedOver, Solved}
+use Rattle.search.specs.Solved.{Known, SolvedOver, Solved}
 use Rattle.search.proofs.StepNet.{table-to-trip, trip-to-table, trip-table}
 
 module _ {N : Net} {n : ℕ} {entry labels : List ℕ} (L : Labels N n entry labels) (long : n ≤ length entry) where

@@ -10,7 +10,6 @@ ghost use Rattle.train.specs.Asked.{query-asked, Accepted};
 ghost use Rattle.search.specs.Solved.{Solved};
 ghost use Rattle.search.specs.Answer.{result-of};
 use crate::Routed;
-use plan::read::wide;
 use pullout::copy::copy_front;
 use steps::reversals::count_reversals;
 use train::Asked;
