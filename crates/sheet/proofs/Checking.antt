@@ -9,7 +9,7 @@ use lib.ListN.{length}
 use Rattle.rules.specs.Plan.{arrivals}
 use Rattle.rules.specs.Query.{Query, start-arrival, finish-room}
 use Rattle.rules.specs.Net.{no-distance, Net, Walk, costs, KeepsRules}
-use Rattle.rules.specs.Trip.{trip-of, query-net}
+use Rattle.rules.specs.Trip.{query-net}
 use Rattle.rules.specs.Sheet.{Sheet, sheet-of, label-of, Claims, StartLabel}
 use Rattle.rules.proofs.Sound.{Sound}
 use Rattle.rules.proofs.Trips.{sound-trip}
@@ -20,7 +20,7 @@ use Rattle.sheet.specs.declared.walk.Followed.{Followed}
 use Rattle.sheet.specs.declared.walk.Followed.the-variants.{Off, Costs}
 use Rattle.sheet.specs.declared.claim.Due.{Due}
 use Rattle.sheet.specs.declared.claim.Due.the-variants.{Nothing, Label}
-use Rattle.sheet.specs.Laid.{Places, LaidOut}
+use Rattle.sheet.specs.Laid.{Places, Prepared}
 use Rattle.sheet.specs.Following.{WalkFound, off, walked}
 use Rattle.sheet.specs.Keeping.{FirstBroken, broken, all-kept}
 use Rattle.sheet.specs.Checking.{DueLabel, LabelsChecked, SheetChecked}
@@ -118,8 +118,13 @@ module _ {q : Query} {next cost ends : List ℕ} {n : ℕ} (S : Sound q) (L : Li
       let few = S .plan .few-sections in
       record { few = omega arith; next-long = omega (arith, L .next-long); cost-long = omega (arith, L .cost-long); ends-long = omega (arith, L .ends-long) }
 
-  pub listing-laid : LaidOut (trip-of q) n next cost ends
-  listing-laid = record { laid = record { sound = sound-trip S; count = sym e; steps = L .steps }; endings = L .endings }
+  pub listing-prepared : {room from : ℕ} → room ≡ finish-room q → from ≡ start-arrival q → Prepared q n next cost ends room from
+  listing-prepared i j = record {
+    tables = record { laid = record { sound = sound-trip S; count = sym e; steps = L .steps }; endings = L .endings };
+    room-of = i;
+    some-room = omega (arith, S .room, S .train);
+    start-of = j;
+  }
 
 -- 17 first, and then those of the labels
 module _ {q : Query} {h : Sheet} {d : Due} (D : DueLabel q h d) where

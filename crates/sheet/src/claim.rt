@@ -3,10 +3,10 @@ ghost use mathlib.Core.Path.{_≡_};
 ghost use mathlib.Core.List.{List};
 ghost use Prim.Native.Nat.{ℕ, _<_};
 ghost use lib.ListN.{length};
-ghost use Rattle.rules.specs.Query.{Query, start-arrival, finish-room};
-ghost use Rattle.rules.specs.Trip.{Trip, net-of, trip-of};
+ghost use Rattle.rules.specs.Query.{Query};
+ghost use Rattle.rules.specs.Trip.{Trip, net-of};
 ghost use Rattle.rules.specs.Sheet.{sheet-of};
-ghost use Rattle.sheet.specs.Laid.{Places, LaidOut};
+ghost use Rattle.sheet.specs.Laid.{Places, LaidOut, Prepared};
 ghost use Rattle.sheet.specs.Keeping.{label-at};
 ghost use Rattle.sheet.specs.Checking.{DueLabel, LabelsChecked, SheetChecked};
 use crate::rule::first_broken;
@@ -34,7 +34,7 @@ fn start_due(
     list: &[u32],
 ) -> Due
     requires { ⌜ Places count (now next) (now cost) (now ends) × (from < count) ⌝ }
-    ensures { λ r. ⌜ ((q : Query) (labels : List ℕ) → LaidOut (trip-of q) count (now (next .entry)) (now (cost .entry)) (now (ends .entry)) → from ≡ start-arrival q → room ≡ finish-room q → 0 < room → DueLabel q (sheet-of claim (now (list .entry)) labels) r) ⌝ }
+    ensures { λ r. ⌜ ((q : Query) (labels : List ℕ) → Prepared q count (now (next .entry)) (now (cost .entry)) (now (ends .entry)) room from → DueLabel q (sheet-of claim (now (list .entry)) labels) r) ⌝ }
 {
     if claim == 0 {
         if list.len() == 0 {
@@ -87,7 +87,7 @@ pub(crate) fn check_claim(
     labels: &[u32],
 ) -> Checked
     requires { ⌜ Places (length (now labels)) (now next) (now cost) (now ends) × (from < length (now labels)) ⌝ }
-    ensures { λ r. ⌜ ((q : Query) → LaidOut (trip-of q) (length (now (labels .entry))) (now (next .entry)) (now (cost .entry)) (now (ends .entry)) → from ≡ start-arrival q → room ≡ finish-room q → 0 < room → SheetChecked q (sheet-of claim (now (list .entry)) (now (labels .entry))) r) ⌝ }
+    ensures { λ r. ⌜ ((q : Query) → Prepared q (length (now (labels .entry))) (now (next .entry)) (now (cost .entry)) (now (ends .entry)) room from → SheetChecked q (sheet-of claim (now (list .entry)) (now (labels .entry))) r) ⌝ }
 {
     let count = labels.len();
     let due = start_due(next, cost, ends, room, count, from, claim, list);

@@ -5,7 +5,7 @@ use lib.ListN.{length}
 use Rattle.rules.proofs.Sound.{sound, label-length}
 use Rattle.rules.proofs.Trips.{start-inside}
 use Rattle.train.specs.Asked.{query-asked}
-use Rattle.sheet.proofs.Checking.{listing-places, listing-laid}
+use Rattle.sheet.proofs.Checking.{listing-places, listing-prepared}
 use borrow.Author.Needs.{needs}
 use Rattle.sheet.proofs.check_over_steps.Statement.{statement}
 use Rattle.sheet.proofs.check_over_steps.Tie as tie
@@ -56,8 +56,8 @@ returns : tie.Need-returns
 returns c =
     let s = c .before .before .before .before .before .before .before .before .before .before .before .before .before .before .before .before .before in
     let S = sound (query-asked (s .args .asked) (s .args .sections .now) (s .args .turns .now)) (length (s .args .labels .now)) (s .pre .0) in
-    let laid = listing-laid S (c .before .before .before .before .before .before .before .before .before .list-steps .ensures) (label-length (query-asked (s .args .asked) (s .args .sections .now) (s .args .turns .now)) (length (s .args .labels .now)) (s .pre .0)) in
-    c .check-claim .ensures (query-asked (s .args .asked) (s .args .sections .now) (s .args .turns .now)) laid (c .before .before .before .before .start-arrival .ensures) (c .before .before .before .before .before .finish-room .ensures) (rw (c .before .before .before .before .before .finish-room .ensures) (omega (arith, S .room, S .train)))
+    let long = label-length (query-asked (s .args .asked) (s .args .sections .now) (s .args .turns .now)) (length (s .args .labels .now)) (s .pre .0) in
+    c .check-claim .ensures (query-asked (s .args .asked) (s .args .sections .now) (s .args .turns .now)) (listing-prepared S (c .before .before .before .before .before .before .before .before .before .list-steps .ensures) long (c .before .before .before .before .before .finish-room .ensures) (c .before .before .before .before .start-arrival .ensures))
 
 pub check-over-steps-spec : {M : Type 1} → statement M
 check-over-steps-spec =

@@ -26,14 +26,14 @@ check-labels-requires : tie.Need-check-labels-requires
 check-labels-requires c κs = search needs
 
 returns : tie.Need-returns
-returns c = λ q L f e z. claim-refused (c .before .before .start-due .ensures q (c .before .before .before .before .before .before .before .before .args .labels .now) L f e z) (c .enum-told .given .1)
+returns c = λ q L. claim-refused (c .before .before .start-due .ensures q (c .before .before .before .before .before .before .before .before .args .labels .now) L) (c .enum-told .given .1)
 
 returns-2 : tie.Need-returns-2
 returns-2 c =
     let s = c .before .before .before .before .before .before .before .before .before .before in
     let same = any-default (s .args .labels .now) (s .args .from) no-distance 0 (s .pre .1) in
-    λ q L f e z.
-    labels-judged (c .before .before .before .before .start-due .ensures q (s .args .labels .now) L f e z) (c .before .before .due .given .1) (L .laid .count) f (omega (arith, same, c .before .before .before .before .before .shared-slice-known5 .given (s .args .from))) (c .check-labels .ensures (trip-of q) L e)
+    λ q L.
+    labels-judged (c .before .before .before .before .start-due .ensures q (s .args .labels .now) L) (c .before .before .due .given .1) (L .tables .laid .count) (L .start-of) (omega (arith, same, c .before .before .before .before .before .shared-slice-known5 .given (s .args .from))) (c .check-labels .ensures (trip-of q) (L .tables) (L .room-of))
 
 pub check-claim-spec : {M : Type 1} → statement M
 check-claim-spec =

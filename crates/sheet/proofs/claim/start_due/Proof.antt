@@ -14,13 +14,13 @@ wide-requires : tie.Need-wide-requires
 wide-requires c κs = search needs
 
 returns : tie.Need-returns
-returns c = λ q labels L f e z. rw (c .wide .ensures .0) (due-none labels (c .before .before .if1 .taken) (c .before .if2 .taken))
+returns c = λ q labels L. rw (c .wide .ensures .0) (due-none labels (c .before .before .if1 .taken) (c .before .if2 .taken))
 
 returns-2 : tie.Need-returns-2
-returns-2 c = λ q labels L f e z. due-listed labels (c .before .if1 .taken) (c .if2 .left)
+returns-2 c = λ q labels L. due-listed labels (c .before .if1 .taken) (c .if2 .left)
 
 returns-3 : tie.Need-returns-3
-returns-3 c = λ q labels L f e z. due-unknown labels (c .before .if1 .left) (c .if3 .taken)
+returns-3 c = λ q labels L. due-unknown labels (c .before .if1 .left) (c .if3 .taken)
 
 follow-requires : tie.Need-follow-requires
 follow-requires c κs = search needs
@@ -41,12 +41,12 @@ add-t18 : tie.Need-add-t18
 add-t18 c = search needs
 
 returns-4 : tie.Need-returns-4
-returns-4 c = λ q labels L f e z. due-off labels (c .before .before .before .if3 .left) (rw f at (c .before .before .follow .ensures (trip-of q) L)) (c .enum-told .given .1)
+returns-4 c = λ q labels L. due-off labels (c .before .before .before .if3 .left) (rw (L .start-of) at (c .before .before .follow .ensures (trip-of q) (L .tables))) (c .enum-told .given .1)
 
 returns-5 : tie.Need-returns-5
 returns-5 c =
-    λ q labels L f e z.
-    rw (c .before .wide2 .ensures .0, c .wide3 .ensures .0) (due-walk labels (c .before .before .before .before .before .before .if3 .left) (rw f at (c .before .before .before .before .before .follow .ensures (trip-of q) L)) (c .before .before .before .followed .given .1) e z)
+    λ q labels L.
+    rw (c .before .wide2 .ensures .0, c .wide3 .ensures .0) (due-walk labels (c .before .before .before .before .before .before .if3 .left) (rw (L .start-of) at (c .before .before .before .before .before .follow .ensures (trip-of q) (L .tables))) (c .before .before .before .followed .given .1) (L .room-of) (L .some-room))
 
 pub start-due-spec : {M : Type 1} → statement M
 start-due-spec =
