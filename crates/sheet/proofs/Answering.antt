@@ -31,19 +31,23 @@ tables-pass q n ok = record { points = q .plan .points; passes = plan-accepted q
 pub turned-away : {q : Query} {h : Sheet} {m p : ℕ} → RefusedWith q (length (h .labels)) m p → SheetAnswer q h (refusal (refused-at m p))
 turned-away {m = m} {p = p} r = refused (refused-at m p) (r .first) (r .number) refl
 
+-- an answer refuses or passes
+not-both : {r : Checked} {m p : ℕ} → r ≡ Refused m p → r ≡ Passed → ⊥
+not-both e f = let y : _≡_ {A = ℕ} 0 1 = cc in omega arith
+
 module _ {q : Query} {h : Sheet} {r : Checked} where
   -- refused by 17, 18 or 19
   pub judged-refused : {m p : ℕ} → asked.Accepted q (length (h .labels)) → SheetChecked q h r → r ≡ Refused m p → SheetAnswer q h (refusal (refused-at m p))
   judged-refused ok (SheetChecked.bad-claim i n) e = bad-claim ok n cc
   judged-refused ok (SheetChecked.bad-label a i c l n k) e = bad-label a ok c l n k cc
   judged-refused ok (SheetChecked.bad-start i c k n) e = bad-start ok c k n cc
-  judged-refused ok (SheetChecked.good i s) e = absurd (let y : _≡_ {A = ℕ} 0 1 = cc in omega arith)
+  judged-refused ok (SheetChecked.good i s) e = absurd (not-both e i)
 
   -- refused by none
   pub judged-passed : SheetChecked q h r → r ≡ Passed → SheetPasses q h
-  judged-passed (SheetChecked.bad-claim i n) e = absurd (let y : _≡_ {A = ℕ} 0 1 = cc in omega arith)
-  judged-passed (SheetChecked.bad-label a i c l n k) e = absurd (let y : _≡_ {A = ℕ} 0 1 = cc in omega arith)
-  judged-passed (SheetChecked.bad-start i c k n) e = absurd (let y : _≡_ {A = ℕ} 0 1 = cc in omega arith)
+  judged-passed (SheetChecked.bad-claim i n) e = absurd (not-both i e)
+  judged-passed (SheetChecked.bad-label a i c l n k) e = absurd (not-both i e)
+  judged-passed (SheetChecked.bad-start i c k n) e = absurd (not-both i e)
   judged-passed (SheetChecked.good i s) e = s
 
 module _ (q : Query) {claim : ℕ} {list labels : List ℕ} (ok : asked.Accepted q (length labels)) (P : SheetPasses q (sheet-of claim list labels)) where

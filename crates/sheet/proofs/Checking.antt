@@ -25,6 +25,13 @@ use Rattle.sheet.specs.Following.{WalkFound, off, walked}
 use Rattle.sheet.specs.Keeping.{FirstBroken, broken, all-kept}
 use Rattle.sheet.specs.Checking.{DueLabel, LabelsChecked, SheetChecked}
 
+-- an answer is one thing or the other
+no-walk-or-costs : {r : Followed} {s : ℕ} → r ≡ Off → r ≡ Costs s → ⊥
+no-walk-or-costs e f = let y : _≡_ {A = ℕ} 0 1 = cc in omega arith
+
+nothing-or-label : {d : Due} {n : ℕ} → d ≡ Nothing → d ≡ Label n → ⊥
+nothing-or-label e f = let y : _≡_ {A = ℕ} 0 1 = cc in omega arith
+
 empty : (bs : List ℕ) → length bs ≡ 0 → bs ≡ []
 empty [] e = refl
 empty (b ∷ bs) e = absurd (omega arith)
@@ -71,7 +78,7 @@ module _ {q : Query} {claim : ℕ} {list : List ℕ} (labels : List ℕ) where
       where
         go : WalkFound (query-net q) (start-arrival q) list r → Walk (query-net q) (start-arrival q) list → ⊥
         go (off i n) w = n w
-        go (walked s i v j) w = let y : _≡_ {A = ℕ} 0 1 = cc in omega arith
+        go (walked s i v j) w = no-walk-or-costs e i
 
     pub due-walk : {sum room : ℕ} → r ≡ Costs sum → room ≡ finish-room q → 0 < room → DueLabel q (sheet-of claim list labels) (Label (sum + room))
     due-walk {sum} {room} e z l = go f
@@ -81,7 +88,7 @@ module _ {q : Query} {claim : ℕ} {list : List ℕ} (labels : List ℕ) where
         match-up d i j k = (λ x. omega arith, λ x. omega arith)
 
         go : WalkFound (query-net q) (start-arrival q) list r → DueLabel q (sheet-of claim list labels) (Label (sum + room))
-        go (off i n) = absurd (let y : _≡_ {A = ℕ} 0 1 = cc in omega arith)
+        go (off i n) = absurd (no-walk-or-costs i e)
         go (walked s i v j) =
             let same : s ≡ sum = cc in
             DueLabel.due (sum + room) refl (Claims.a-walk c v) (λ k.
@@ -133,7 +140,7 @@ module _ {q : Query} {h : Sheet} {d : Due} (D : DueLabel q h d) where
     where
       go : DueLabel q h d → SheetChecked q h (Refused 17 0)
       go (DueLabel.bad-claim i n) = SheetChecked.bad-claim refl n
-      go (DueLabel.due n i c s) = absurd (let y : _≡_ {A = ℕ} 0 1 = cc in omega arith)
+      go (DueLabel.due n i c s) = absurd (nothing-or-label e i)
 
   pub labels-judged : {count a n : ℕ} {r : Checked} → d ≡ Label n → arrivals (q .plan) ≡ count → a ≡ start-arrival q → label-of h a < 4294967296
       → LabelsChecked (query-net q) (label-of h) count a n r → SheetChecked q h r
@@ -147,5 +154,5 @@ module _ {q : Query} {h : Sheet} {d : Due} (D : DueLabel q h d) where
 
       go : DueLabel q h d → label-of h (start-arrival q) < 4294967296
           → LabelsChecked (query-net q) (label-of h) (arrivals (q .plan)) (start-arrival q) n r → SheetChecked q h r
-      go (DueLabel.bad-claim i m) l = absurd (let y : _≡_ {A = ℕ} 0 1 = cc in omega arith)
+      go (DueLabel.bad-claim i m) l = absurd (nothing-or-label i e)
       go (DueLabel.due m i c s) l = let same : m ≡ n = cc in after same c (s l)

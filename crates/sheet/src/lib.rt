@@ -3,7 +3,7 @@
 // an accepted list is a shortest admissible walk, and an accepted "no route" means that none exists. And what is right it accepts: the
 // remaining distances with any shortest walk, or with "no route" where there is none, with the walk's own numbers as the answer. Both
 // halves follow from the contract of `check_sheet`: proofs/Demand.antt has them as `accepted-is-shortest` and `accepted-no-route`,
-// `shortest-is-accepted` and `no-route-is-accepted`.
+// `shortest-is-accepted` and `no-route-is-accepted`. So the search's own answer is accepted (`search-is-accepted`).
 mod claim;
 mod rule;
 mod walk;
