@@ -1,0 +1,48 @@
+-- `check_sheet` meets its contract: rows 1 to 6 are the plan check's, and then come the others.
+-- Assumes nothing.
+use lib.ListN.{length}
+use Rattle.rules.specs.Plan.{plan-of}
+use Rattle.rules.specs.PlanCheck.{plan-checks}
+use Rattle.rules.specs.Query.{query-of}
+use Rattle.plan.proofs.Answers.{answer-passes}
+use Rattle.train.proofs.Refusing.{plan-refused}
+use Rattle.sheet.proofs.Answering.{turned-away}
+use borrow.Author.Needs.{needs}
+use Rattle.sheet.proofs.check_sheet.Statement.{statement}
+use Rattle.sheet.proofs.check_sheet.Tie as tie
+use Rattle.sheet.proofs.check_sheet.Reads as reads
+use Rattle.sheet.proofs.check_sheet.Lts as lts
+use Rattle.plan.proofs.check_plan.Reads as check-plan-reads
+use Rattle.sheet.proofs.judge_plan.Reads as judge-plan-reads
+
+check-plan-requires : tie.Need-check-plan-requires
+check-plan-requires c κs = search needs
+
+enum-known-checked : tie.Need-enum-known-checked
+enum-known-checked c = search needs
+
+enum-told : tie.Need-enum-told
+enum-told c = search needs
+
+judge-plan-requires : tie.Need-judge-plan-requires
+judge-plan-requires c κs = let s = c .before .before .before .before .before .before .before in answer-passes (plan-checks (plan-of (s .args .points) (s .args .sections .now) (s .args .turns .now))) tt (c .before .before .check-plan .ensures) (c .enum-told .given .1)
+
+returns : tie.Need-returns
+returns c =
+    let s = c .before .before .before .before .before .before .before .before in
+    let query = query-of (plan-of (s .args .points) (s .args .sections .now) (s .args .turns .now)) (s .args .length) (s .args .start) (s .args .leave) (s .args .finish) (s .args .enter) in
+    turned-away (plan-refused query (length (s .args .labels .now)) (c .before .before .before .check-plan .ensures) (c .before .checked .given .1))
+
+returns-2 : tie.Need-returns-2
+returns-2 c = search needs
+
+pub check-sheet-spec : {M : Type 1} → statement M
+check-sheet-spec =
+    tie.close
+    (tie.spec
+    check-plan-requires
+    enum-known-checked
+    enum-told
+    judge-plan-requires
+    returns
+    returns-2)

@@ -1,0 +1,56 @@
+-- `judge_plan` meets its contract: rows 7 to 10 are the train's check, row 11 is tested here, and then come the others.
+-- Assumes nothing.
+use lib.ListN.{length}
+use Rattle.train.specs.Asked.{query-asked}
+use Rattle.train.proofs.Refusing.{train-refused, labels-refused, accepted}
+use Rattle.sheet.proofs.Answering.{turned-away}
+use borrow.Author.Needs.{needs}
+use Rattle.sheet.proofs.judge_plan.Statement.{statement}
+use Rattle.sheet.proofs.judge_plan.Tie as tie
+use Rattle.sheet.proofs.judge_plan.Reads as reads
+use Rattle.sheet.proofs.judge_plan.Lts as lts
+use Rattle.sheet.proofs.judge.Reads as judge-reads
+use Rattle.train.proofs.check_train.Reads as check-train-reads
+
+check-train-requires : tie.Need-check-train-requires
+check-train-requires c κs = search needs
+
+enum-known-checked : tie.Need-enum-known-checked
+enum-known-checked c = search needs
+
+enum-told : tie.Need-enum-told
+enum-told c = search needs
+
+mul-if1 : tie.Need-mul-if1
+mul-if1 c = search needs
+
+returns : tie.Need-returns
+returns c =
+    let s = c .before .before .before .before .before .before .before .before in
+    turned-away (labels-refused (query-asked (s .args .asked) (s .args .sections .now) (s .args .turns .now)) (length (s .args .labels .now)) (s .pre) (c .before .before .before .check-train .ensures) (c .before .enum-told .given .1) (c .if1 .taken))
+
+judge-requires : tie.Need-judge-requires
+judge-requires c κs =
+    let s = c .before .before .before .before .before .before .before .before in
+    accepted (query-asked (s .args .asked) (s .args .sections .now) (s .args .turns .now)) (length (s .args .labels .now)) (s .pre) (c .before .before .before .check-train .ensures) (c .before .enum-told .given .1) (c .if1 .left)
+
+returns-2 : tie.Need-returns-2
+returns-2 c =
+    let s = c .before .before .before .before .before .before .before .before in
+    turned-away (train-refused (query-asked (s .args .asked) (s .args .sections .now) (s .args .turns .now)) (length (s .args .labels .now)) (s .pre) (c .before .before .before .check-train .ensures) (c .before .checked .given .1))
+
+returns-3 : tie.Need-returns-3
+returns-3 c = search needs
+
+pub judge-plan-spec : {M : Type 1} → statement M
+judge-plan-spec =
+    tie.close
+    (tie.spec
+    check-train-requires
+    enum-known-checked
+    enum-told
+    mul-if1
+    returns
+    judge-requires
+    returns-2
+    returns-3)

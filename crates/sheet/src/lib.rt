@@ -1,0 +1,185 @@
+// The sheet checker. A sheet claims a shortest walk, or that there is no route, and gives a label for each arrival as evidence. The checker
+// never looks for a walk: it makes the table of steps and compares the sheet with it. What it accepts is right, whoever wrote the labels:
+// an accepted list is a shortest admissible walk, and an accepted "no route" means that none exists. And what is right it accepts: the
+// remaining distances with any shortest walk, or with "no route" where there is none, with the walk's own numbers as the answer. Both
+// halves follow from the contract of `check_sheet`: proofs/Demand.antt has them as `accepted-is-shortest` and `accepted-no-route`,
+// `shortest-is-accepted` and `no-route-is-accepted`. So the search's own answer is accepted (`search-is-accepted`).
+mod claim;
+mod rule;
+mod walk;
+
+ghost use mathlib.Core.Path.{_≡_};
+ghost use lib.ListN.{length as length-of};
+ghost use Rattle.rules.specs.Plan.{plan-of};
+ghost use Rattle.rules.specs.Refusals.{verdict, passed};
+ghost use Rattle.rules.specs.PlanCheck.{plan-checks};
+ghost use Rattle.rules.specs.Query.{query-of};
+ghost use Rattle.rules.specs.Sheet.{sheet-of, SheetAnswer};
+ghost use Rattle.train.specs.Asked.{query-asked, Accepted};
+ghost use Rattle.pullout.specs.Tables.{TurnTable, Tables};
+ghost use Rattle.sheet.specs.Checking.{SheetPasses, SheetChecked};
+ghost use Rattle.sheet.specs.Answer.{numbers-of};
+use claim::check_claim;
+use plan::Checked;
+use plan::check_plan;
+use plan::slots::index;
+use pullout::turn_table::turn_table;
+use steps::listing::list_steps;
+use steps::reversals::count_reversals;
+use train::Asked;
+use train::check_train;
+use train::place::first_distance;
+use train::place::start_arrival;
+use train::room::finish_room;
+
+// What is answered: an accepted list's total, reversals and steps (zeros for "no route"), or a refusal's number and place.
+pub enum Judged {
+    Accepted(u32, u32, u32),
+    Refused(u32, u32),
+}
+
+// Refusals 17 to 19, where 1 to 11 do not apply.
+fn check_over_steps(
+    sections: &[u32],
+    turns: &[u32],
+    slots: &[u32; 2304],
+    table: &[u32; 1536],
+    asked: Asked,
+    claim: u32,
+    list: &[u32],
+    labels: &[u32],
+) -> Checked
+    requires { ⌜ Accepted (query-asked asked (now sections) (now turns)) (length-of (now labels)) × Tables (now sections) (now turns) (now slots) (now table) ⌝ }
+    ensures { λ r. ⌜ SheetChecked (query-asked asked (now (sections .entry)) (now (turns .entry))) (sheet-of claim (now (list .entry)) (now (labels .entry))) r ⌝ }
+{
+    let mut next = [4294967295; 4096];
+    let mut cost = [0; 4096];
+    let mut ends = [0; 2048];
+    list_steps(
+        sections,
+        turns,
+        slots,
+        table,
+        asked,
+        &mut next,
+        &mut cost,
+        &mut ends,
+    );
+    let room = finish_room(
+        sections,
+        asked.length,
+        asked.start,
+        asked.finish,
+        asked.enter,
+    );
+    let from = start_arrival(asked.start, asked.leave);
+    check_claim(&next, &cost, &ends, room, from, claim, list, labels)
+}
+
+// The numbers of a sheet that passes.
+fn accept(
+    sections: &[u32],
+    turns: &[u32],
+    table: &[u32; 1536],
+    asked: Asked,
+    claim: u32,
+    list: &[u32],
+    labels: &[u32],
+) -> Judged
+    requires { ⌜ Accepted (query-asked asked (now sections) (now turns)) (length-of (now labels)) × TurnTable (now sections) (now turns) (now table) × SheetPasses (query-asked asked (now sections) (now turns)) (sheet-of claim (now list) (now labels)) ⌝ }
+    ensures { λ r. ⌜ SheetAnswer (query-asked asked (now (sections .entry)) (now (turns .entry))) (sheet-of claim (now (list .entry)) (now (labels .entry))) (numbers-of r) ⌝ }
+{
+    if claim == 0 {
+        return Judged::Accepted(0, 0, 0);
+    }
+    let from = start_arrival(asked.start, asked.leave);
+    let total = first_distance(sections, asked.start, asked.leave) + labels[from];
+    let steps = list.len();
+    let reversals = count_reversals(sections, turns, table, from as u32, list, steps);
+    Judged::Accepted(total, reversals, steps as u32)
+}
+
+// Refusals 17 to 19 and acceptance, where 1 to 11 do not apply.
+fn judge(
+    sections: &[u32],
+    turns: &[u32],
+    asked: Asked,
+    claim: u32,
+    list: &[u32],
+    labels: &[u32],
+) -> Judged
+    requires { ⌜ Accepted (query-asked asked (now sections) (now turns)) (length-of (now labels)) ⌝ }
+    ensures { λ r. ⌜ SheetAnswer (query-asked asked (now (sections .entry)) (now (turns .entry))) (sheet-of claim (now (list .entry)) (now (labels .entry))) (numbers-of r) ⌝ }
+{
+    let slots = index(sections);
+    let table = turn_table(sections, turns);
+    let checked = check_over_steps(sections, turns, &slots, &table, asked, claim, list, labels);
+    match checked {
+        Checked::Refused(number, arrival) => Judged::Refused(number, arrival),
+        Checked::Passed => accept(sections, turns, &table, asked, claim, list, labels),
+    }
+}
+
+// Refusals 7 to 11, where the plan has passed, and then the others.
+fn judge_plan(
+    sections: &[u32],
+    turns: &[u32],
+    asked: Asked,
+    claim: u32,
+    list: &[u32],
+    labels: &[u32],
+) -> Judged
+    requires { ⌜ verdict (plan-checks (plan-of (asked .points) (now sections) (now turns))) ≡ passed ⌝ }
+    ensures { λ r. ⌜ SheetAnswer (query-asked asked (now (sections .entry)) (now (turns .entry))) (sheet-of claim (now (list .entry)) (now (labels .entry))) (numbers-of r) ⌝ }
+{
+    let checked = check_train(
+        sections,
+        asked.length,
+        asked.start,
+        asked.leave,
+        asked.finish,
+        asked.enter,
+    );
+    match checked {
+        Checked::Refused(number, place) => Judged::Refused(number, place),
+        Checked::Passed => {
+            if labels.len() != 2 * (sections.len() / 6) {
+                return Judged::Refused(11, 0);
+            }
+            judge(sections, turns, asked, claim, list, labels)
+        }
+    }
+}
+
+// Judges the sheet of a train of this length from the section start, which it leaves by the end leave, to the section finish, which it
+// enters by the end enter: any numbers, any lengths of the tables, of the list and of the labels. A total never wraps: the sum of a
+// list's costs stops at "none", and a list that costs so much has no label that matches.
+pub fn check_sheet(
+    points: u32,
+    sections: &[u32],
+    turns: &[u32],
+    length: u32,
+    start: u32,
+    leave: u32,
+    finish: u32,
+    enter: u32,
+    claim: u32,
+    list: &[u32],
+    labels: &[u32],
+) -> Judged
+    ensures { λ r. ⌜ SheetAnswer (query-of (plan-of points (now (sections .entry)) (now (turns .entry))) length start leave finish enter) (sheet-of claim (now (list .entry)) (now (labels .entry))) (numbers-of r) ⌝ }
+{
+    let asked = Asked {
+        points,
+        length,
+        start,
+        leave,
+        finish,
+        enter,
+    };
+    let checked = check_plan(points, sections, turns);
+    match checked {
+        Checked::Refused(number, place) => Judged::Refused(number, place),
+        Checked::Passed => judge_plan(sections, turns, asked, claim, list, labels),
+    }
+}
