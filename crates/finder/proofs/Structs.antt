@@ -5,15 +5,18 @@ use mathlib.Core.List.{List}
 use Prim.Native.Nat.{ℕ}
 use Rattle.rules.specs.Query.{Query}
 use Rattle.rules.specs.Search as rules
+use Rattle.rules.specs.Sheet.{Sheet, SheetAnswer}
 use Rattle.rules.specs.PullAnswer.{Reversal, PullAnswer}
 use Rattle.pullout.specs.declared.Pulled.{Pulled}
 use Rattle.pullout.specs.declared.Pulled.the-variants.{Found, Refused}
 use Rattle.pullout.specs.Answer.{numbers-of}
 use Rattle.search.specs.declared.Routed.{Routed}
 use Rattle.search.specs.Answer.{result-of}
+use Rattle.sheet.specs.declared.Judged.{Judged}
+use Rattle.sheet.specs.Answer as sheet
 use Rattle.finder.specs.declared.Answer.{Answer}
 use Rattle.finder.specs.declared.Pull.{Pull}
-use Rattle.finder.specs.Numbers.{route-answer, resultOf, pull-answer, pulledOf}
+use Rattle.finder.specs.Numbers.{route-answer, resultOf, sheet-answer, numbersOf, pull-answer, pulledOf}
 
 same-numbers : (a : Pulled) (list : List ℕ) → pulledOf (pull-answer a) list ≡ numbers-of a list
 same-numbers (Found n) list = refl
@@ -26,3 +29,6 @@ pull-carried v entry exit a e h = rw (e, same-numbers a exit) h
 pub route-carried : (q : Query) (route labels : List ℕ) (a : Routed) {r : Answer} {route-after labels-after : List ℕ} → r ≡ route-answer a
     → rules.Answer q route labels (result-of a route-after labels-after) → rules.Answer q route labels (resultOf r route-after labels-after)
 route-carried q route labels a e h = rw e h
+
+pub sheet-carried : (q : Query) (h : Sheet) (a : Judged) {r : Answer} → r ≡ sheet-answer a → SheetAnswer q h (sheet.numbers-of a) → SheetAnswer q h (numbersOf r)
+sheet-carried q h a e k = rw e k

@@ -9,7 +9,9 @@ use Rattle.plan.specs.Answer.{verdict-of}
 use Rattle.pullout.specs.declared.Pulled.{Pulled}
 use Rattle.pullout.specs.declared.Pulled.the-variants.{Found, Refused}
 use Rattle.search.specs.declared.Routed.{Routed}
-use Rattle.search.specs.Answer.{numbers-of}
+use Rattle.search.specs.Answer as search
+use Rattle.sheet.specs.declared.Judged.{Judged}
+use Rattle.sheet.specs.Answer as sheet
 use Rattle.finder.specs.declared.Answer.{Answer}
 use Rattle.finder.specs.declared.Pull.{Pull}
 
@@ -23,15 +25,19 @@ check-answer c = answerOf (refusal (verdict-of c))
 
 -- what stands for the answer of a search
 abbrev pub route-answer : Routed → Answer
-route-answer r = answerOf (numbers-of r)
+route-answer r = answerOf (search.numbers-of r)
 
--- the struct's numbers with the two lent buffers at exit, as the rules have them
+-- what stands for the answer of a sheet check
+abbrev pub sheet-answer : Judged → Answer
+sheet-answer r = answerOf (sheet.numbers-of r)
+
+-- the struct's numbers, as the rules have them
+abbrev pub numbersOf : Answer → Numbers
+numbersOf r = record { refusal = r .refusal; place = r .place; total = r .total; reversals = r .reversals; steps = r .steps }
+
+-- the same with the two lent buffers at exit
 abbrev pub resultOf : Answer → List ℕ → List ℕ → Result
-resultOf r route labels = record {
-  numbers = record { refusal = r .refusal; place = r .place; total = r .total; reversals = r .reversals; steps = r .steps };
-  route = route;
-  labels = labels;
-}
+resultOf r route labels = record { numbers = numbersOf r; route = route; labels = labels }
 
 -- what stands for the answer of a pull-out: its count, or a refusal's number and place
 abbrev pub pull-answer : Pulled → Pull

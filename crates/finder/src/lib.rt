@@ -2,14 +2,16 @@
 use plan::Checked;
 use pullout::Pulled;
 use search::Routed;
+use sheet::Judged;
 ghost use mathlib.Core.Path.{_≡_};
 ghost use Rattle.rules.specs.Plan.{plan-of};
 ghost use Rattle.rules.specs.PlanCheck.{plan-checks};
 ghost use Rattle.rules.specs.Refusals.{verdict};
 ghost use Rattle.rules.specs.Query.{query-of};
 ghost use Rattle.rules.specs.Search as rules;
+ghost use Rattle.rules.specs.Sheet.{sheet-of, SheetAnswer};
 ghost use Rattle.rules.specs.PullAnswer.{reversal-of, PullAnswer};
-ghost use Rattle.finder.specs.Numbers.{answerOf, check-answer, pulledOf, pull-answer, resultOf, route-answer};
+ghost use Rattle.finder.specs.Numbers.{answerOf, check-answer, pulledOf, pull-answer, resultOf, route-answer, numbersOf, sheet-answer};
 
 // The five numbers of an answer.
 #[repr(C)]
@@ -111,6 +113,62 @@ pub extern "C" fn finder_search(
         route,
         labels,
     ))
+}
+
+// The numbers of a sheet check.
+fn judged(answer: Judged) -> Answer
+    ensures { λ r. ⌜ r ≡ sheet-answer answer ⌝ }
+{
+    match answer {
+        Judged::Accepted(sum, turned, count) => Answer {
+            refusal: 0,
+            place: 0,
+            total: sum,
+            reversals: turned,
+            steps: count,
+        },
+        Judged::Refused(number, at) => Answer {
+            refusal: number,
+            place: at,
+            total: 0,
+            reversals: 0,
+            steps: 0,
+        },
+    }
+}
+
+// Refusals 1 to 11, 17, 18, 19; the numbers of an accepted list.
+#[no_mangle]
+pub extern "C" fn finder_check_sheet(
+    points: u32,
+    sections: &[u32],
+    turns: &[u32],
+    length: u32,
+    start: u32,
+    leave: u32,
+    finish: u32,
+    enter: u32,
+    claim: u32,
+    list: &[u32],
+    labels: &[u32],
+) -> Answer
+    ensures { λ r.
+        ⌜ SheetAnswer (query-of (plan-of points (now (sections .entry)) (now (turns .entry))) length start leave finish enter) (sheet-of claim (now (list .entry)) (now (labels .entry))) (numbersOf r) ⌝ }
+{
+    let answer = sheet::check_sheet(
+        points,
+        sections,
+        turns,
+        length,
+        start,
+        leave,
+        finish,
+        enter,
+        claim,
+        list,
+        labels,
+    );
+    judged(answer)
 }
 
 // The numbers of a pull-out.
