@@ -64,7 +64,10 @@ enum finder_refusal {
     FINDER_STEPS = 13,        /* the walk would have more than 2,048 steps; never given */
     FINDER_ROOM = 14,         /* the answer has more entries than the lent buffer */
     FINDER_NO_TURN = 15,      /* pull-out: no such arrival or section, or no forbidden turn between them at the arrival's point */
-    FINDER_NO_PULL_OUT = 16   /* there is no pull-out */
+    FINDER_NO_PULL_OUT = 16,  /* there is no pull-out */
+    FINDER_CLAIM = 17,        /* sheet: the claim is not 0 or 1, 0 comes with a list, or 1 with a list that is no admissible walk */
+    FINDER_LABEL_RULE = 18,   /* sheet: a label breaks a label rule; place: the arrival */
+    FINDER_START_LABEL = 19   /* sheet: the start label is not what the claim makes it */
 };
 
 /* With a refusal every number but its own and the place is 0. */
@@ -131,6 +134,27 @@ typedef struct {
 finder_pull finder_pull_out(uint32_t points, const uint32_t *sections, size_t sections_len, const uint32_t *turns,
                             size_t turns_len, uint32_t length, uint32_t arrival, uint32_t section, uint32_t *list,
                             size_t list_len);
+
+/* Checks a sheet: a claim about one query, with a label for each arrival as evidence. It never looks for a walk, only whether
+ * what is claimed follows from the labels.
+ *   length .. finish_end   the query, as in finder_search
+ *   claim                  0: there is no route; 1: the list is a shortest admissible walk
+ *   list                   the arrivals of the walk, as finder_search writes them; empty with claim 0. It may be of any length
+ *   labels                 two entries for each section, FINDER_NONE where no walk leads on
+ * Refusals, in this order: 1 to 11 as in finder_search, then
+ *   17   the claim is neither 0 nor 1, comes with a list though it is 0, or with a list that is no admissible walk though it is 1
+ *   18   a label breaks a rule: at an arrival where a walk may end it is at most the finish room; before an admissible step it
+ *        is at most the step's cost and the label after it, where FINDER_NONE is above all numbers. Place: the lowest arrival
+ *   19   the start label: with claim 1 the first distance and the start label are the list's total; with claim 0 it is FINDER_NONE
+ * An accepted walk gets its total, reversals and steps, an accepted "no route" zeros. Nothing is written, and no sum wraps.
+ * Proved, whoever wrote the sheet: an accepted list is a shortest admissible walk, and an accepted "no route" means that there
+ * is none; the remaining distances with any shortest walk, or with "no route" where there is none, are accepted, so what
+ * finder_search writes always is (finder_check_sheet's contract in crates/finder/src/lib.rt; theorems accepted-is-shortest,
+ * accepted-no-route, shortest-is-accepted, no-route-is-accepted and search-is-accepted in crates/sheet/proofs/Demand.antt). */
+finder_answer finder_check_sheet(uint32_t points, const uint32_t *sections, size_t sections_len, const uint32_t *turns,
+                                 size_t turns_len, uint32_t length, uint32_t start, uint32_t start_end, uint32_t finish,
+                                 uint32_t finish_end, uint32_t claim, const uint32_t *list, size_t list_len,
+                                 const uint32_t *labels, size_t labels_len);
 
 #ifdef __cplusplus
 }

@@ -9,11 +9,6 @@ use Rattle.sheet.proofs.Answering.{tables-pass, none-accepted, start-th
 use borrow.Author.Needs.{needs}
 use Rattle.sheet.proofs.accept.Statement.{statement}
 use Rattle.sheet.proofs.accept.Tie as tie
-use Rattle.sheet.proofs.accept.Reads as reads
-use Rattle.sheet.proofs.accept.Lts as lts
-use Rattle.steps.proofs.reversals.count_reversals.Reads as count-reversals-reads
-use Rattle.train.proofs.place.first_distance.Reads as first-distance-reads
-use Rattle.train.proofs.place.start_arrival.Reads as start-arrival-reads
 
 returns : tie.Need-returns
 returns c = let s = c .before .before .before .before .before in none-accepted (query-asked (s .args .asked) (s .args .sections .now) (s .args .turns .now)) (s .pre .0) (s .pre .2) (c .if1 .taken)

@@ -9,12 +9,6 @@ use Rattle.sheet.proofs.Checking.{listing-places, listing-prepared}
 use borrow.Author.Needs.{needs}
 use Rattle.sheet.proofs.check_over_steps.Statement.{statement}
 use Rattle.sheet.proofs.check_over_steps.Tie as tie
-use Rattle.sheet.proofs.check_over_steps.Reads as reads
-use Rattle.sheet.proofs.check_over_steps.Lts as lts
-use Rattle.sheet.proofs.claim.check_claim.Reads as check-claim-reads
-use Rattle.steps.proofs.listing.list_steps.Reads as list-steps-reads
-use Rattle.train.proofs.place.start_arrival.Reads as start-arrival-reads
-use Rattle.train.proofs.room.finish_room.Reads as finish-room-reads
 
 slice-aggregate-list-steps : tie.Need-slice-aggregate-list-steps
 slice-aggregate-list-steps c = search needs

@@ -10,10 +10,6 @@ use Rattle.sheet.proofs.Answering.{turned-away}
 use borrow.Author.Needs.{needs}
 use Rattle.sheet.proofs.check_sheet.Statement.{statement}
 use Rattle.sheet.proofs.check_sheet.Tie as tie
-use Rattle.sheet.proofs.check_sheet.Reads as reads
-use Rattle.sheet.proofs.check_sheet.Lts as lts
-use Rattle.plan.proofs.check_plan.Reads as check-plan-reads
-use Rattle.sheet.proofs.judge_plan.Reads as judge-plan-reads
 
 check-plan-requires : tie.Need-check-plan-requires
 check-plan-requires c κs = search needs

@@ -9,12 +9,6 @@ use Rattle.sheet.proofs.Answering.{tables-pass, judged-refused, judged-
 use borrow.Author.Needs.{needs}
 use Rattle.sheet.proofs.judge.Statement.{statement}
 use Rattle.sheet.proofs.judge.Tie as tie
-use Rattle.sheet.proofs.judge.Reads as reads
-use Rattle.sheet.proofs.judge.Lts as lts
-use Rattle.plan.proofs.slots.index.Reads as index-reads
-use Rattle.pullout.proofs.turn_table.turn_table.Reads as turn-table-reads
-use Rattle.sheet.proofs.accept.Reads as accept-reads
-use Rattle.sheet.proofs.check_over_steps.Reads as check-over-steps-reads
 
 index-requires : tie.Need-index-requires
 index-requires c κs =

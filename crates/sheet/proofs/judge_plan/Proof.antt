@@ -7,10 +7,6 @@ use Rattle.sheet.proofs.Answering.{turned-away}
 use borrow.Author.Needs.{needs}
 use Rattle.sheet.proofs.judge_plan.Statement.{statement}
 use Rattle.sheet.proofs.judge_plan.Tie as tie
-use Rattle.sheet.proofs.judge_plan.Reads as reads
-use Rattle.sheet.proofs.judge_plan.Lts as lts
-use Rattle.sheet.proofs.judge.Reads as judge-reads
-use Rattle.train.proofs.check_train.Reads as check-train-reads
 
 check-train-requires : tie.Need-check-train-requires
 check-train-requires c κs = search needs

@@ -8,10 +8,6 @@ use Rattle.sheet.proofs.Checking.{claim-refused, labels-judged}
 use borrow.Author.Needs.{needs}
 use Rattle.sheet.proofs.claim.check_claim.Statement.{statement}
 use Rattle.sheet.proofs.claim.check_claim.Tie as tie
-use Rattle.sheet.proofs.claim.check_claim.Reads as reads
-use Rattle.sheet.proofs.claim.check_claim.Lts as lts
-use Rattle.sheet.proofs.claim.check_labels.Reads as check-labels-reads
-use Rattle.sheet.proofs.claim.start_due.Reads as start-due-reads
 
 start-due-requires : tie.Need-start-due-requires
 start-due-requires c κs = search needs

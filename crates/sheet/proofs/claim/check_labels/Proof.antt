@@ -8,10 +8,6 @@ use Rattle.sheet.proofs.Checking.{label-broken, start-wrong, start-righ
 use borrow.Author.Needs.{needs}
 use Rattle.sheet.proofs.claim.check_labels.Statement.{statement}
 use Rattle.sheet.proofs.claim.check_labels.Tie as tie
-use Rattle.sheet.proofs.claim.check_labels.Reads as reads
-use Rattle.sheet.proofs.claim.check_labels.Lts as lts
-use Rattle.plan.proofs.read.wide.Reads as wide-reads
-use Rattle.sheet.proofs.rule.first_broken.Reads as first-broken-reads
 
 first-broken-requires : tie.Need-first-broken-requires
 first-broken-requires c κs = search needs

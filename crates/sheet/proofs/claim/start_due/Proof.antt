@@ -5,10 +5,6 @@ use Rattle.sheet.proofs.Checking.{due-none, due-listed, due-unknown, du
 use borrow.Author.Needs.{needs}
 use Rattle.sheet.proofs.claim.start_due.Statement.{statement}
 use Rattle.sheet.proofs.claim.start_due.Tie as tie
-use Rattle.sheet.proofs.claim.start_due.Reads as reads
-use Rattle.sheet.proofs.claim.start_due.Lts as lts
-use Rattle.plan.proofs.read.wide.Reads as wide-reads
-use Rattle.sheet.proofs.walk.follow.Reads as follow-reads
 
 wide-requires : tie.Need-wide-requires
 wide-requires c κs = search needs

@@ -4,9 +4,6 @@ use Rattle.sheet.proofs.Keeping.{before-any, from-none, by-sum}
 use borrow.Author.Needs.{needs}
 use Rattle.sheet.proofs.rule.at_most.Statement.{statement}
 use Rattle.sheet.proofs.rule.at_most.Tie as tie
-use Rattle.sheet.proofs.rule.at_most.Reads as reads
-use Rattle.sheet.proofs.rule.at_most.Lts as lts
-use Rattle.plan.proofs.read.wide.Reads as wide-reads
 
 returns : tie.Need-returns
 returns c = before-any (c .if1 .taken)

@@ -4,8 +4,6 @@ use Rattle.sheet.proofs.Keeping.{end-by-room}
 use borrow.Author.Needs.{needs}
 use Rattle.sheet.proofs.rule.end_kept.Statement.{statement}
 use Rattle.sheet.proofs.rule.end_kept.Tie as tie
-use Rattle.sheet.proofs.rule.end_kept.Reads as reads
-use Rattle.sheet.proofs.rule.end_kept.Lts as lts
 
 mul-if1 : tie.Need-mul-if1
 mul-if1 c = search needs

@@ -4,10 +4,6 @@ use Rattle.sheet.proofs.Keeping.{leads-nowhere, leads-on}
 use borrow.Author.Needs.{needs}
 use Rattle.sheet.proofs.rule.entry_kept.Statement.{statement}
 use Rattle.sheet.proofs.rule.entry_kept.Tie as tie
-use Rattle.sheet.proofs.rule.entry_kept.Reads as reads
-use Rattle.sheet.proofs.rule.entry_kept.Lts as lts
-use Rattle.plan.proofs.read.wide.Reads as wide-reads
-use Rattle.sheet.proofs.rule.at_most.Reads as at-most-reads
 
 mul-wide : tie.Need-mul-wide
 mul-wide c = search needs

@@ -4,10 +4,6 @@ use Rattle.sheet.proofs.Keeping.{rules-end, rules-first, rules-second}
 use borrow.Author.Needs.{needs}
 use Rattle.sheet.proofs.rule.rules_kept.Statement.{statement}
 use Rattle.sheet.proofs.rule.rules_kept.Tie as tie
-use Rattle.sheet.proofs.rule.rules_kept.Reads as reads
-use Rattle.sheet.proofs.rule.rules_kept.Lts as lts
-use Rattle.sheet.proofs.rule.end_kept.Reads as end-kept-reads
-use Rattle.sheet.proofs.rule.entry_kept.Reads as entry-kept-reads
 
 end-kept-requires : tie.Need-end-kept-requires
 end-kept-requires c κs = search needs

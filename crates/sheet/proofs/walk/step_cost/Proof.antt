@@ -6,9 +6,6 @@ use Rattle.sheet.proofs.Following.{beyond, placed, nowhere}
 use borrow.Author.Needs.{needs}
 use Rattle.sheet.proofs.walk.step_cost.Statement.{statement}
 use Rattle.sheet.proofs.walk.step_cost.Tie as tie
-use Rattle.sheet.proofs.walk.step_cost.Reads as reads
-use Rattle.sheet.proofs.walk.step_cost.Lts as lts
-use Rattle.plan.proofs.read.wide.Reads as wide-reads
 
 wide-requires : tie.Need-wide-requires
 wide-requires c κs = search needs
