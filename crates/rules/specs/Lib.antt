@@ -179,6 +179,7 @@
 --   Reading           what the reader answers, V and the three counts, and the lent tables at exit
 --   unread            a refusal writes nothing, and every number but its own and the place is 0
 --   in-front          a table goes into the front of a lent one; the rest stays
+--   in-fronts         the file's three tables in the fronts of the lent ones
 --   holds             each lent table holds the file's
 --   taken-in          success: V, the counts, and each table in front
 --   read-by           the answer where the first fault is known

@@ -109,7 +109,7 @@ table t s = rows t s (fields s 0)
 -- how many of some fields have tag t
 unfoldable pub tagged : ℕ → List ℕ → List ℕ → ℕ
 tagged t s [] = 0
-tagged t s (p ∷ ps) = cond (eqb (tag s p) t) 1 0 + tagged t s ps
+tagged t s (p ∷ ps) = cond (eqb (tag s p) t) (suc (tagged t s ps)) (tagged t s ps)
 
 -- [Yard file and route program] how many fields of tag t the file has
 abbrev pub count : ℕ → List ℕ → ℕ
@@ -143,6 +143,10 @@ unread v lent = record { refusal = v .number; place = v .place; points = 0; sect
 abbrev pub in-front : List ℕ → List ℕ → List ℕ
 in-front new old = new ++ drop (length new) old
 
+-- [Refusal numbers] the file's three tables in the fronts of the lent ones
+abbrev pub in-fronts : List ℕ → Lent → Lent
+in-fronts s lent = lent-of (in-front (table 2 s) (lent .sections)) (in-front (table 3 s) (lent .turns)) (in-front (table 4 s) (lent .queries))
+
 -- [Refusal 14] each lent table holds the file's
 abbrev pub holds : Lent → List ℕ → Bool
 holds lent s =
@@ -158,7 +162,7 @@ taken-in s lent =
       sections = count 2 s;
       turns = count 3 s;
       queries = count 4 s;
-      tables = lent-of (in-front (table 2 s) (lent .sections)) (in-front (table 3 s) (lent .turns)) (in-front (table 4 s) (lent .queries));
+      tables = in-fronts s lent;
     }
 
 -- [Refusal numbers] the answer where the first fault is known
