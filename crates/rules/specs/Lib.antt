@@ -150,6 +150,41 @@
 --   Accepted          the numbers of an accepted sheet: those of the walk, or zeros
 --   SheetAnswer       what may be answered to the sheet h of the query q; the checker writes nothing
 --
+-- YardFile: Yard files: their fields, the first fault, the tables that they hold, and what their reader answers: numbers 20 and 14.
+--   number            the number that some bytes make, the first of them counting most
+--   tag               the tag of the field that begins at byte p of the file s
+--   size              the length that the field gives: how many bytes follow its first three
+--   past              the byte at which the next field begins
+--   places            where fields begin, from byte p on; k bounds how many are listed
+--   fields            where the fields begin, from byte p on: each takes a byte at least, so the file's length bounds them
+--   layout            the bytes of each number of a field, by its tag. 1: V. 2: end A, end B, length, kind, free from A, free from B. 3: two sections. 4: train, start section and end, finish section and end
+--   bytes-in          how many bytes these are in all
+--   limit             how many fields of a tag a file has at most
+--   times             how often a tag occurs
+--   cut-short         the file ends before the field does
+--   unknown           not one of the four tags
+--   wrong-length      not as long as a field of its tag
+--   out-of-order      a tag after the tags before it, of which the latest stands first: tag 1 begins, and no tag is below the latest
+--   too-many          as many fields of its tag as may be stand before it
+--   faulty            what is wrong with the field at p, after fields with the tags before
+--   fault-among       the first faulty one of some fields
+--   fault             the byte at which the first faulty field begins; an empty file is at fault at 0
+--   numbers           the numbers that stand in the file from byte k on, by the bytes of each
+--   rows              the numbers of those of some fields that have tag t, one field after the other
+--   table             the table that the fields of tag t make
+--   tagged            how many of some fields have tag t
+--   count             how many fields of tag t the file has
+--   Lent              the three tables that are lent to the reader: sections, turns, queries
+--   lent-of           the lent tables, from the three arguments by which the library's function takes them
+--   Reading           what the reader answers, V and the three counts, and the lent tables at exit
+--   unread            a refusal writes nothing, and every number but its own and the place is 0
+--   in-front          a table goes into the front of a lent one; the rest stays
+--   in-fronts         the file's three tables in the fronts of the lent ones
+--   holds             each lent table holds the file's
+--   taken-in          success: V, the counts, and each table in front
+--   read-by           the answer where the first fault is known
+--   read              what is answered to the file s: 20, then 14, then success; values are not judged
+--
 -- Cases: The small yards of document 01 with their answers: the table of the cases that are proved.
 --   yard-Y            yard Y; what stands on sections 0 and 4 differs from case to case
 --   plain-Y           yard Y with sections 0 and 4 free
@@ -171,4 +206,5 @@ pub mod Trip
 pub mod Search
 pub mod PullAnswer
 pub mod Sheet
+pub mod YardFile
 pub mod Cases

@@ -1,0 +1,33 @@
+-- `bytes::four_bytes` meets its contract: the first two bytes count 65,536 times.
+-- Assumes nothing.
+use native.Mathlib.Omega.{arith}
+use borrow.Author.Needs.{needs}
+use Rattle.yardfile.proofs.BigEndian.{of-four}
+use Rattle.yardfile.proofs.bytes.four_bytes.Statement.{statement}
+use Rattle.yardfile.proofs.bytes.four_bytes.Tie as tie
+
+two-bytes-requires : tie.Need-two-bytes-requires
+two-bytes-requires c κs = search needs
+
+mul-result : tie.Need-mul-result
+mul-result c = search needs
+
+add-two-bytes : tie.Need-add-two-bytes
+add-two-bytes c = search needs
+
+two-bytes-requires-2 : tie.Need-two-bytes-requires-2
+two-bytes-requires-2 c κs = search needs
+
+add-result : tie.Need-add-result
+add-result c = search needs
+
+returns : tie.Need-returns
+returns c =
+    let a = c .before .before .before .args in
+    let e = of-four (a .file .now) (a .k) (omega arith) in
+    omega arith
+
+pub four-bytes-spec : {M : Type 1} → statement M
+four-bytes-spec =
+    tie.close
+    (tie.spec two-bytes-requires mul-result add-two-bytes two-bytes-requires-2 add-result returns)

@@ -1,0 +1,61 @@
+// How long the fields of each tag are, of which numbers they are made, and how many a file may have.
+ghost use mathlib.Core.Path.{_≡_};
+ghost use Prim.Native.Nat.{_<_, _≤_};
+ghost use lib.ListN.{length, getD};
+ghost use Rattle.rules.specs.YardFile.{layout, bytes-in, limit};
+ghost use Rattle.yardfile.specs.Widths.{Width};
+
+// The bytes of a field of a tag.
+pub(crate) fn field_bytes(tag: u8) -> usize
+    ensures { λ r. ⌜ (r ≡ bytes-in (layout tag)) × (r ≤ 17) ⌝ }
+{
+    match tag {
+        1 => 2,
+        2 => 17,
+        3 => 4,
+        4 => 10,
+        _ => 0,
+    }
+}
+
+// How many fields of a tag there may be.
+pub(crate) fn most(tag: u8) -> u32
+    ensures { λ r. ⌜ (r ≡ limit tag) × (r ≤ 1024) ⌝ }
+{
+    match tag {
+        1 => 1,
+        2 => 1024,
+        3 => 768,
+        4 => 256,
+        _ => 0,
+    }
+}
+
+// How many numbers a field of a tag holds.
+pub(crate) fn columns(tag: u8) -> usize
+    ensures { λ r. ⌜ (r ≡ length (layout tag)) × (r ≤ 6) ⌝ }
+{
+    match tag {
+        1 => 1,
+        2 => 6,
+        3 => 2,
+        4 => 5,
+        _ => 0,
+    }
+}
+
+const SECTION: [usize; 6] = [2, 2, 4, 1, 4, 4];
+
+const QUERY: [usize; 5] = [4, 2, 1, 2, 1];
+
+// The bytes of number i of a field of a tag.
+pub(crate) fn column(tag: u8, i: usize) -> usize
+    requires { ⌜ i < length (layout tag) ⌝ }
+    ensures { λ r. ⌜ (r ≡ getD (layout tag) i 0) × Width r ⌝ }
+{
+    match tag {
+        2 => SECTION[i],
+        4 => QUERY[i],
+        _ => 2,
+    }
+}
