@@ -7,7 +7,8 @@ from .layout import layout
 from .plan import metres
 
 UNIT, MARGIN, LINE = 50, 55, 18  # pixels: one unit of a place, round the yard, a line of the legend
-ROUTE_SHIFT, PULL_SHIFT, PULL_APART = 6, 12, 5  # pixels to the right of the track
+ROUTE_SHIFT = 6  # pixels to the right of the track; pull-outs are drawn on it
+ARROW, MARK = 12, 8  # pixels: length of an arrow, radius of a reversal's mark
 STYLE = """
 text { font: 11px sans-serif; fill: #222; paint-order: stroke; stroke: #fff; stroke-width: 3px; stroke-linejoin: round }
 path, line { fill: none; stroke-linecap: round; stroke-linejoin: round }
@@ -18,11 +19,12 @@ path, line { fill: none; stroke-linecap: round; stroke-linejoin: round }
 .turn { stroke: #d1122b; stroke-width: 2.2 }
 .point { fill: #222 }
 .point-name { fill: #555; font-size: 9px }
+.connecting-name { font-size: 9px }
 .stock-name { fill: #7a3b10; font-size: 9px }
 .route { stroke: #1769c4; stroke-width: 3 }
 .arrow { fill: #1769c4 }
-.pull { stroke: #e07b00; stroke-width: 2.5; stroke-dasharray: 6 5 }
-.pull-end { stroke: #e07b00; stroke-width: 2.5 }
+.pull { stroke: #f08a00; stroke-width: 5; stroke-dasharray: 7 5; stroke-linecap: butt }
+.pull-end { stroke: #f08a00; stroke-width: 3 }
 .reversal { fill: #fff; stroke: #e07b00; stroke-width: 2 }
 .reversal-number { fill: #b35f00; font-weight: bold; font-size: 10px; text-anchor: middle; stroke: none }
 .title { font-size: 13px; font-weight: bold }
@@ -73,14 +75,24 @@ def label(place, words_, kind="", anchor="middle", angle=0.0):
     return '<text class="%s" x="%.1f" y="%.1f" text-anchor="%s"%s>%s</text>' % (kind, *place, anchor, turn, html.escape(words_))
 
 
+def beside(line, distance, words_, kind):
+    """Words along the middle of a line's longest straight piece, upright, above it or, at a distance below 0, below."""
+    p, q = max(zip(line, line[1:]), key=lambda piece: math.dist(*piece))
+    if (q[0], -q[1]) < (p[0], -p[1]):
+        p, q = q, p
+    (x, y), (ux, uy) = along([p, q], 0.5)
+    return label((x + distance * uy, y - distance * ux), words_, kind, angle=math.degrees(math.atan2(uy, ux)))
+
+
 class Drawing:
-    def __init__(self, yard):
-        self.yard = yard
+    def __init__(self, yard, titles):
+        self.yard, self.titles = yard, titles
+        head = MARGIN + LINE * len(titles)
         places, lines = layout(yard)
         left, top = (min(place[axis] for line in lines for place in line) for axis in (0, 1))
         right, bottom = (max(place[axis] for line in lines for place in line) for axis in (0, 1))
-        self.width, self.height = ((high - low) * UNIT + 2 * MARGIN for low, high in ((left, right), (top, bottom)))
-        to_pixels = lambda place: ((place[0] - left) * UNIT + MARGIN, (place[1] - top) * UNIT + MARGIN)
+        self.width, self.height = (right - left) * UNIT + 2 * MARGIN, (bottom - top) * UNIT + head + MARGIN
+        to_pixels = lambda place: ((place[0] - left) * UNIT + MARGIN, (place[1] - top) * UNIT + head)
         self.places = [to_pixels(place) for place in places]
         self.lines = [[to_pixels(place) for place in line] for line in lines]
 
@@ -101,7 +113,7 @@ class Drawing:
             yield path(line, plan.KINDS[section.kind])
         for number, section in enumerate(self.yard.sections):
             if not section.is_free():
-                yield path(self.piece(number, section.a, section.from_a, section.length - section.from_b), "stock")
+                yield path(self.stock(number), "stock")
 
     def turns(self):
         """An arc across the two sections at their point."""
@@ -117,28 +129,22 @@ class Drawing:
 
     def section_names(self):
         for number, section in enumerate(self.yard.sections):
-            place, unit = self.middle(number)
-            angle = math.degrees(math.atan2(unit[1], unit[0]))
-            beside = lambda distance: (place[0] + distance * unit[1], place[1] - distance * unit[0])
             said = section.name + (", " + metres(section.length) if section.kind == plan.DESTINATION else "")
-            yield label(beside(9), said, angle=angle)
+            yield beside(self.lines[number], 11, said, plan.KINDS[section.kind] + "-name")
             if not section.is_free():
-                yield label(beside(-17), "locked" if section.stock() == section.length else "stock " + metres(section.stock()),
-                            "stock-name", angle=angle)
+                said = "locked" if section.stock() == section.length else "stock " + metres(section.stock())
+                yield beside(self.stock(number), -17, said, "stock-name")
 
-    def middle(self, number):
-        """The middle of a section's longest straight piece, and its direction, turned so that words stand upright."""
-        line = self.lines[number]
-        p, q = max(zip(line, line[1:]), key=lambda piece: math.dist(*piece))
-        if (q[0], -q[1]) < (p[0], -p[1]):
-            p, q = q, p
-        return along([p, q], 0.5)
+    def stock(self, number):
+        section = self.yard.sections[number]
+        return self.piece(number, section.a, section.from_a, section.length - section.from_b)
 
-    def points(self):
+    def points(self, marked):
+        """With their names, which make room for the marks of reversals."""
         for number, (point, (x, y)) in enumerate(zip(self.yard.points, self.places)):
             yield '<circle class="point" cx="%.1f" cy="%.1f" r="3"/>' % (x, y)
-            angle = self.widest_gap(number)
-            place = (x + 10 * math.cos(angle), y + 10 * math.sin(angle) + 3)
+            angle, away = self.widest_gap(number), 5 if number in marked else 0
+            place = (x + (9 + away) * math.cos(angle), y + (13 + away) * math.sin(angle) + 3)
             anchor = "middle" if abs(math.cos(angle)) < 0.5 else "start" if math.cos(angle) > 0 else "end"
             yield label(place, point.name, "point-name", anchor)
 
@@ -157,67 +163,78 @@ class Drawing:
         start_point, finish_point = start.point_at(query.start_end), finish.point_at(query.finish_end)
         first, room = walk.first_distance(self.yard, query), walk.finish_room(self.yard, query)
         yield path(self.piece(query.start, start_point, first, first + query.length), "train")
-        yield from self.driven(self.piece(query.start, start_point, 0, first)[::-1] if first else None, 0.5)
+        yield from self.driven(self.piece(query.start, start_point, 0, first)[::-1], 0.5)
         for step in steps:
-            yield from self.driven(self.way(step.section, step.start), 0.55)
+            yield from self.driven(self.way(step.section, step.start), 0.4)
         yield from self.driven(self.piece(query.finish, finish_point, 0, room), 1)
 
     def driven(self, line, arrow):
-        """A piece of the route, with an arrow at a part of it."""
-        if line is None:
-            return
+        """A piece of the route, with an arrow at a part of it, if it is long enough to carry one."""
         line = shifted(line, ROUTE_SHIFT)
         yield path(line, "route")
+        if sum(map(math.dist, line, line[1:])) < 1.5 * ARROW:
+            return
         (x, y), (ux, uy) = along(line, arrow)
-        tip, left, right = ((x + a * ux - b * uy, y + a * uy + b * ux) for a, b in ((7, 0), (-5, 5), (-5, -5)))
+        tip, left, right = ((x + a * ux - b * uy, y + a * uy + b * ux)
+                            for a, b in ((ARROW / 2, 0), (-ARROW / 2, ARROW * 0.4), (-ARROW / 2, -ARROW * 0.4)))
         yield '<path class="arrow" d="M %.1f %.1f L %.1f %.1f L %.1f %.1f Z"/>' % (*tip, *left, *right)
 
     def pull_outs(self, query, steps):
-        reversing = [step for step in steps if step.pull_out is not None]
-        for count, step in enumerate(reversing):
-            yield from self.pull_out(query, step, PULL_SHIFT + PULL_APART * count)
-        met = {}
-        for count, step in enumerate(reversing, 1):
-            x, y = self.places[step.start]
-            y -= 17 * met.setdefault(step.start, 0)
-            met[step.start] += 1
-            yield '<circle class="reversal" cx="%.1f" cy="%.1f" r="8"/>' % (x, y)
-            yield label((x, y + 3.5), str(count), "reversal-number")
+        for step in steps:
+            if step.pull_out is not None:
+                yield from self.pull_out(query, step)
 
-    def pull_out(self, query, step, shift):
+    def pull_out(self, query, step):
         point, left = step.start, query.length
         for number in step.pull_out:
             section = self.yard.sections[number]
-            line = shifted(self.piece(number, point, 0, min(left, section.length)), shift)
+            line = self.piece(number, point, 0, min(max(left, self.seen_from(number)), section.length))
             yield path(line, "pull")
             point, left = section.far(point), left - section.length
         (x, y), (ux, uy) = along(line, 1)
-        yield path([(x - 5 * uy, y + 5 * ux), (x + 5 * uy, y - 5 * ux)], "pull-end")
+        yield path([(x - 6 * uy, y + 6 * ux), (x + 6 * uy, y - 6 * ux)], "pull-end")
+
+    def seen_from(self, number):
+        """The distance on a section at which the mark of a reversal no longer hides what is drawn."""
+        return self.yard.sections[number].length * 2 * MARK / sum(map(math.dist, self.lines[number], self.lines[number][1:]))
+
+    def reversals(self, steps):
+        """A number at each reversal's point, one above the other where several are at one point."""
+        met = []
+        for step in steps:
+            if step.pull_out is not None:
+                x, y = self.places[step.start]
+                y -= 17 * met.count(step.start)
+                met.append(step.start)
+                yield '<circle class="reversal" cx="%.1f" cy="%.1f" r="%d"/>' % (x, y, MARK)
+                yield label((x, y + 3.5), str(len(met)), "reversal-number")
 
     # The whole.
 
+    def headings(self):
+        for number, title in enumerate(self.titles, 1):
+            yield label((MARGIN / 2, 6 + LINE * number), title, "title", "start")
+
     def legend(self, routed):
-        """Samples of the lines, with what they mean."""
+        """Samples of the lines, with what they mean, below the yard."""
         samples = [("connecting", "connecting section"), ("destination", "destination section"), ("stock", "stock"),
                    ("turn", "forbidden turn")]
         samples += [("train", "the train"), ("route", "route"), ("pull", "pull-out for a reversal")] if routed else []
         x, y = MARGIN / 2, self.height
         for kind, meaning in samples:
-            if x > MARGIN / 2 and x + 50 + 6.5 * len(meaning) > self.full_width():
+            width = 50 + 6.5 * len(meaning)
+            if x > MARGIN / 2 and x + width > self.full_width():
                 x, y = MARGIN / 2, y + LINE
             yield path([(x, y), (x + 28, y)], kind)
             yield label((x + 36, y + 4), meaning, anchor="start")
-            x += 56 + 6.5 * len(meaning)
+            x += width
         self.height = y
 
     def full_width(self):
-        return max(self.width, 640)
+        return max(self.width, *(8 * len(title) for title in self.titles), 400)
 
-    def svg(self, titles, body, routed):
-        parts = [*body, *self.legend(routed)]
-        for title in titles:
-            self.height += LINE + 4
-            parts.append(label((MARGIN / 2, self.height), title, "title", "start"))
+    def svg(self, body, routed):
+        parts = [*self.headings(), *body, *self.legend(routed)]
         size = "%.0f" % self.full_width(), "%.0f" % (self.height + LINE)
         head = '<svg xmlns="http://www.w3.org/2000/svg" width="%s" height="%s" viewBox="0 0 %s %s">' % (size * 2)
         white = '<rect width="100%" height="100%" fill="#fff"/>'
@@ -226,14 +243,10 @@ class Drawing:
 
 def draw(yard, title, number=None, answer=None):
     """The yard; with a query's number and its answer, the route too."""
-    drawing = Drawing(yard)
-    body, titles = [*drawing.tracks(), *drawing.turns()], [title] if title else []
-    routed = answer is not None and not answer.refusal
-    if answer is not None:
-        titles.append(words.headline(yard, number, answer))
-    if routed:
-        query, steps = yard.queries[number - 1], words.checked_walk(yard, number, answer)
-        body += [*drawing.route(query, steps), *drawing.points(), *drawing.section_names(), *drawing.pull_outs(query, steps)]
-    else:
-        body += [*drawing.points(), *drawing.section_names()]
-    return drawing.svg(titles, body, routed)
+    drawing = Drawing(yard, [title] if answer is None else [title, words.headline(yard, number, answer)])
+    if answer is None or answer.refusal:
+        return drawing.svg([*drawing.tracks(), *drawing.turns(), *drawing.points(()), *drawing.section_names()], False)
+    query, steps = yard.queries[number - 1], words.checked_walk(yard, number, answer)
+    marked = {step.start for step in steps if step.pull_out is not None}
+    return drawing.svg([*drawing.tracks(), *drawing.route(query, steps), *drawing.turns(), *drawing.pull_outs(query, steps),
+                        *drawing.points(marked), *drawing.reversals(steps), *drawing.section_names()], True)

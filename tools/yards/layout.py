@@ -38,7 +38,7 @@ def point_sides(yard, point):
     """For each section at a point the side, 1 or -1, on which it leaves."""
     here = yard.sections_at(point)
     turn = next((turn for turn in yard.turns if yard.turn_point(turn) == point), None)
-    together = {turn.one, turn.other} if turn else set(here[1:])
+    together = {turn.one, turn.other} if turn else set(here[1:] or here)
     return {number: 1 if number in together else -1 for number in here}
 
 

@@ -23,8 +23,8 @@ class Line:
 
     def __init__(self, number, text):
         self.number = number
-        # A length can be written in one word or with a blank before its unit.
-        self.words = re.sub(r"(?<=\d)\s+(?=(m|dm)(\s|$))", "", text.split("#")[0]).split()
+        # A length can be written in one word or with a blank before its unit. No name begins with a digit.
+        self.words = re.sub(r"(?<!\S)([\d.]+)\s+(m|dm)(?!\S)", r"\1\2", text.split("#")[0]).split()
 
     def fault(self, message):
         return at_line(self.number, message)
@@ -154,7 +154,7 @@ class Reader:
         point = self.end_point(section, line, STANDING)
         rest = section.length - gap - stock
         if stock == 0 or rest < 0:
-            raise line.fault("stock of %s at %s from point %s does not stand on section %s, which is %s long" % (
+            raise line.fault("stock of %s at %s from point %s does not fit on section %s, which is %s long" % (
                 plan.metres(stock), plan.metres(gap), self.name_of(point), section.name, plan.metres(section.length)))
         section.from_a, section.from_b = (gap, rest) if point == section.a else (rest, gap)
 
@@ -202,8 +202,9 @@ def read(text):
 
 
 def decode(data):
+    """Some editors put a mark before UTF-8."""
     try:
-        return data.decode("utf-8")
+        return data.decode("utf-8-sig")
     except UnicodeDecodeError as fault:
         raise Fault("this is no text: byte %d is not UTF-8" % fault.start) from None
 

@@ -1,12 +1,18 @@
 """Walks and pull-outs by document 01's rules, for one yard and query."""
 import dataclasses
+import sys
 
 from .plan import Fault, metres
 
 
+# A try is two calls deep for each point that it passes.
+sys.setrecursionlimit(10_000)
+
+
 def first_pull_out(yard, length, came_over, point, onto):
     """The smallest list of sections onto which a train can draw clear of a point to go on, reversed, from one section to
-    another; None if there is none. Every list is tried, in order, so the first that passes is the smallest."""
+    another; None if there is none. Lists are tried in their order, so the first that passes is the smallest. In yards that
+    branch and join again and again the number of lists is exponential."""
     return try_point(yard, length, point, came_over, {point}, {came_over, onto})
 
 

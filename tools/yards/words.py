@@ -44,11 +44,11 @@ def numbers(words, line):
         raise Fault("line %d of the output is not the route program's" % line) from None
 
 
-def read_output(lines, yard):
+def read_output(said, yard):
+    lines = [line for line in said.splitlines() if line.strip()]
     first = lines[0].split() if lines else []
-    if first[:1] == ["FILE"] or first[:1] == ["REFUSED"]:
-        number, place = (numbers(first[1:], 1) + [0, 0])[:2]
-        return Output(number, place, [])
+    if first[:1] in (["FILE"], ["REFUSED"]) and len(first) == 3:
+        return Output(*numbers(first[1:], 1), [])
     sizes = [len(yard.points), len(yard.sections), len(yard.turns)]
     if first[:1] != ["YARD"]:
         raise Fault("line 1 of the output is not the route program's")
