@@ -133,11 +133,16 @@ class Drawing:
             yield beside(self.lines[number], 11, said, plan.KINDS[section.kind] + "-name")
             if not section.is_free():
                 said = "locked" if section.stock() == section.length else "stock " + metres(section.stock())
-                yield beside(self.stock(number), -17, said, "stock-name")
+                yield beside(self.stock(number), -26 if self.stock_near_end(number) else -17, said, "stock-name")
 
     def stock(self, number):
         section = self.yard.sections[number]
         return self.piece(number, section.a, section.from_a, section.length - section.from_b)
+
+    def stock_near_end(self, number):
+        """Whether words below stock would meet the name of a point."""
+        middle = along(self.stock(number), 0.5)[0]
+        return min(math.dist(middle, self.lines[number][end]) for end in (0, -1)) < 40
 
     def points(self, marked):
         """With their names, which make room for the marks of reversals."""

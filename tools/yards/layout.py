@@ -2,7 +2,9 @@
 
 At a switch the two sections of its forbidden turn lie on one side and the third on the other. So a section leads to the right
 or to the left at each of its ends, and points are put into columns such that sections run from left to right, but for loops.
-Within the columns points follow the mean height of their neighbours."""
+Where there is room to spare destinations are drawn long, not what connects them. Within the columns points follow the mean
+height of their neighbours."""
+from . import plan
 
 ROUNDS = 60
 COLUMN, ROW = 2.6, 1.4  # distances, in the unit of places
@@ -17,7 +19,7 @@ def layout(yard):
 
 
 def automatic(yard):
-    columns = column_numbers(len(yard.points), without_rings(left_to_right(yard)))
+    columns = column_numbers(yard, without_rings(left_to_right(yard)))
     bends = [(number, column) for number, section in enumerate(yard.sections)
              for column in between(columns[section.a], columns[section.b])]
     chains = [[section.a, section.b] for section in yard.sections]
@@ -61,63 +63,65 @@ def facing_sides(yard):
 
 
 def left_to_right(yard):
-    """Left and right point of the sections, but for those that a loop makes leave both their points on one side."""
+    """Left point, right point and number of the sections, but for those that a loop makes leave both points on one side."""
     sides = facing_sides(yard)
     for number, section in enumerate(yard.sections):
         at_a, at_b = sides[section.a][number], sides[section.b][number]
         if at_a != at_b:
-            yield (section.a, section.b) if at_a == 1 else (section.b, section.a)
+            yield (section.a, section.b, number) if at_a == 1 else (section.b, section.a, number)
 
 
 def without_rings(runs):
     """The runs, but for those that would close a ring."""
-    following = {}
-    for left, right in runs:
+    kept, following = [], {}
+    for left, right, number in runs:
         reached, waiting = {right}, [right]
         while waiting:
-            fresh = set(following.get(waiting.pop(), ())) - reached
+            fresh = following.get(waiting.pop(), set()) - reached
             reached |= fresh
             waiting += fresh
         if left not in reached:
-            following.setdefault(left, []).append(right)
-    return [(left, right) for left, rights in following.items() for right in rights]
+            following.setdefault(left, set()).add(right)
+            kept.append((left, right, number))
+    return kept
 
 
-def column_numbers(count, runs):
-    """As far left as the runs allow; what has nothing to its left moves up to what it leads to."""
-    columns, changed = [0] * count, True
+def column_numbers(yard, runs):
+    """As far left as the runs allow; what has only destinations to its left then moves up to what it leads to."""
+    columns, changed = [0] * len(yard.points), True
     while changed:
         changed = False
-        for left, right in runs:
+        for left, right, _ in runs:
             if columns[right] <= columns[left]:
                 columns[right], changed = columns[left] + 1, True
-    rights = {right for _, right in runs}
-    for point in range(count):
-        following = [columns[right] for left, right in runs if left == point]
-        if following and point not in rights:
+    held = {right for _, right, number in runs if yard.sections[number].kind == plan.CONNECTING}
+    for point in sorted(range(len(columns)), key=lambda point: -columns[point]):
+        following = [columns[right] for left, right, _ in runs if left == point]
+        if following and point not in held:
             columns[point] = min(following) - 1
     return columns
 
 
 def row_heights(columns, links):
+    """Heights that begin with the order in which the columns are reached from the left."""
     neighbours = [[] for _ in columns]
     for one, other in links:
         neighbours[one].append(other)
         neighbours[other].append(one)
+    inside = [[node for node in range(len(columns)) if columns[node] == column] for column in sorted(set(columns))]
     heights = [0.0] * len(columns)
-    for column in set(columns):
-        for row, node in enumerate(node for node in range(len(columns)) if columns[node] == column):
-            heights[node] = float(row)
+    for column in inside:
+        settle(column, [[other for other in near if columns[other] < columns[column[0]]] for near in neighbours], heights)
     for _ in range(ROUNDS):
-        for column in sorted(set(columns)):
-            settle([node for node in range(len(columns)) if columns[node] == column], neighbours, heights)
+        for column in inside:
+            settle(column, neighbours, heights)
     return heights
 
 
 def settle(column, neighbours, heights):
     """Each at the mean height of its neighbours, as far as there is a row's distance between any two."""
     wish = {node: sum(heights[other] for other in neighbours[node]) / max(1, len(neighbours[node])) for node in column}
-    column.sort(key=lambda node: (wish[node], node))
+    column = sorted(column, key=lambda node: (wish[node], node))
     placed = []
     for node in column:
         placed.append(max(wish[node], placed[-1] + 1) if placed else wish[node])
