@@ -75,6 +75,7 @@ def check_turn(yard, turn):
         raise at_line(turn.line, "a forbidden turn is from a section to another, not from %s to itself" % one.name)
     for section in (one, other):
         if section.kind != plan.CONNECTING:
-            raise at_line(turn.line, "section %s is a destination: a forbidden turn is between connecting sections" % section.name)
+            raise at_line(turn.line, "section %s is a destination: a forbidden turn is between connecting sections"
+                          % section.name)
     if yard.turn_point(turn) is None:
         raise at_line(turn.line, "sections %s and %s share no point" % (one.name, other.name))

@@ -70,18 +70,18 @@ def path(line, kind):
     return '<path class="%s" d="M %s"/>' % (kind, " L ".join("%.1f %.1f" % place for place in line))
 
 
-def label(place, words_, kind="", anchor="middle", angle=0.0):
+def label(place, said, kind="", anchor="middle", angle=0.0):
     turn = ' transform="rotate(%.1f %.1f %.1f)"' % (angle, *place) if abs(angle) > 0.5 else ""
-    return '<text class="%s" x="%.1f" y="%.1f" text-anchor="%s"%s>%s</text>' % (kind, *place, anchor, turn, html.escape(words_))
+    return '<text class="%s" x="%.1f" y="%.1f" text-anchor="%s"%s>%s</text>' % (kind, *place, anchor, turn, html.escape(said))
 
 
-def beside(line, distance, words_, kind):
+def beside(line, distance, said, kind):
     """Words along the middle of a line's longest straight piece, upright, above it or, at a distance below 0, below."""
     p, q = max(zip(line, line[1:]), key=lambda piece: math.dist(*piece))
     if (q[0], -q[1]) < (p[0], -p[1]):
         p, q = q, p
     (x, y), (ux, uy) = along([p, q], 0.5)
-    return label((x + distance * uy, y - distance * ux), words_, kind, angle=math.degrees(math.atan2(uy, ux)))
+    return label((x + distance * uy, y - distance * ux), said, kind, angle=math.degrees(math.atan2(uy, ux)))
 
 
 class Drawing:
@@ -201,7 +201,8 @@ class Drawing:
 
     def seen_from(self, number):
         """The distance on a section at which the mark of a reversal no longer hides what is drawn."""
-        return self.yard.sections[number].length * 2 * MARK / sum(map(math.dist, self.lines[number], self.lines[number][1:]))
+        line = self.lines[number]
+        return self.yard.sections[number].length * 2 * MARK / (sum(map(math.dist, line, line[1:])) or 1)
 
     def reversals(self, steps):
         """A number at each reversal's point, one above the other where several are at one point."""

@@ -36,16 +36,22 @@ def fields(data):
     offset, last, count = 0, 0, 0
     while offset < len(data):
         tag, body = field_at(data, offset)
-        if (last == 0) != (tag == POINTS):
-            raise at_offset(offset, "the number of points (tag 1) comes first and once, here is tag %d after tag %d" % (tag, last)
-                            if last else "the file begins with tag %d, not with the number of points (tag 1)" % tag)
-        if tag < last:
-            raise at_offset(offset, "a %s (tag %d) after a %s (tag %d)" % (WORDS[tag], tag, WORDS[last], last))
+        check_order(offset, tag, last)
         last, count = tag, count + 1 if tag == last else 1
         if count > MOST[tag]:
             raise at_offset(offset, "more than %d of the fields with tag %d (%s)" % (MOST[tag], tag, WORDS[tag]))
         yield offset, tag, LAYOUTS[tag].unpack(body)
         offset += HEAD.size + len(body)
+
+
+def check_order(offset, tag, last):
+    """Whether a field may follow one with the last tag, 0 at the beginning."""
+    if last == 0 and tag != POINTS:
+        raise at_offset(offset, "the file begins with tag %d, not with the number of points (tag 1)" % tag)
+    if last != 0 and tag == POINTS:
+        raise at_offset(offset, "the number of points (tag 1) a second time")
+    if tag < last:
+        raise at_offset(offset, "a %s (tag %d) after a %s (tag %d)" % (WORDS[tag], tag, WORDS[last], last))
 
 
 def field_at(data, offset):
