@@ -28,3 +28,4 @@ pub mod LabelTests
 pub mod Certificate
 pub mod SheetTests
 pub mod Table
+pub mod YardFiles

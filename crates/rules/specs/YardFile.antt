@@ -26,7 +26,7 @@ size s p = number (take 2 (drop (p + 1) s))
 abbrev pub past : List ℕ → ℕ → ℕ
 past s p = p + 3 + size s p
 
--- where fields begin, from byte p on; k bounds how many are listed
+-- [Yard file and route program] where fields begin, from byte p on; k bounds how many are listed
 unfoldable pub places : ℕ → List ℕ → ℕ → List ℕ
 places zero s p = []
 places (suc k) s p = cond (ltb p (length s)) (p ∷ places k s (past s p)) []
@@ -43,7 +43,7 @@ layout t =
     (cond (eqb t 3) (2 ∷ 2 ∷ [])
     (cond (eqb t 4) (4 ∷ 2 ∷ 1 ∷ 2 ∷ 1 ∷ []) [])))
 
--- how many bytes these are in all
+-- [Yard file and route program] how many bytes these are in all
 abbrev pub bytes-in : List ℕ → ℕ
 bytes-in [] = 0
 bytes-in (w ∷ ws) = w + bytes-in ws
@@ -52,7 +52,7 @@ bytes-in (w ∷ ws) = w + bytes-in ws
 abbrev pub limit : ℕ → ℕ
 limit t = cond (eqb t 1) 1 (cond (eqb t 2) 1024 (cond (eqb t 3) 768 (cond (eqb t 4) 256 0)))
 
--- how often a tag occurs
+-- [Yard file and route program] how often a tag occurs
 abbrev pub times : ℕ → List ℕ → ℕ
 times t [] = 0
 times t (u ∷ us) = cond (eqb u t) (suc (times t us)) (times t us)
@@ -83,7 +83,7 @@ unfoldable pub faulty : List ℕ → List ℕ → ℕ → Bool
 faulty s before p =
     cut-short s p || unknown (tag s p) || wrong-length s p || out-of-order before (tag s p) || too-many before (tag s p)
 
--- the first faulty one of some fields
+-- [Yard file and route program] the first faulty one of some fields
 unfoldable pub fault-among : List ℕ → List ℕ → List ℕ → Option ℕ
 fault-among s before [] = none
 fault-among s before (p ∷ ps) = cond (faulty s before p) (some p) (fault-among s (tag s p ∷ before) ps)
@@ -97,7 +97,7 @@ abbrev pub numbers : List ℕ → List ℕ → ℕ → List ℕ
 numbers [] s k = []
 numbers (w ∷ ws) s k = number (take w (drop k s)) ∷ numbers ws s (k + w)
 
--- the numbers of those of some fields that have tag t, one field after the other
+-- [Yard file and route program] the numbers of those of some fields that have tag t, one field after the other
 unfoldable pub rows : ℕ → List ℕ → List ℕ → List ℕ
 rows t s [] = []
 rows t s (p ∷ ps) = cond (eqb (tag s p) t) (numbers (layout t) s (p + 3)) [] ++ rows t s ps
@@ -106,7 +106,7 @@ rows t s (p ∷ ps) = cond (eqb (tag s p) t) (numbers (layout t) s (p + 3)) [] +
 abbrev pub table : ℕ → List ℕ → List ℕ
 table t s = rows t s (fields s 0)
 
--- how many of some fields have tag t
+-- [Yard file and route program] how many of some fields have tag t
 unfoldable pub tagged : ℕ → List ℕ → List ℕ → ℕ
 tagged t s [] = 0
 tagged t s (p ∷ ps) = cond (eqb (tag s p) t) (suc (tagged t s ps)) (tagged t s ps)

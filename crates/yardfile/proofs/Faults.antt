@@ -1,8 +1,8 @@
 -- The first fault of a file that is read run by run: it stands where the runs end, unless that is the end of the file.
 -- Assumes nothing.
-use mathlib.Core.Path.{_≡_, refl, sym, _∙_}
+use mathlib.Core.Path.{_≡_, refl, _∙_}
 use mathlib.Core.Bool.{Bool, true, false, cond, not, _||_}
-use mathlib.Core.Option.{Option, none, some}
+use mathlib.Core.Option.{none, some}
 use mathlib.Core.List.{List, [], _∷_}
 use Prim.Native.Nat.{ℕ, zero, suc, _+_, _≤_, _<_}
 use native.Mathlib.Omega.{arith}
@@ -11,10 +11,9 @@ use borrow.Author.Tests.{eq-eqb, ne-eqb, lt-ltb, le-ltb}
 use lib.Dec.{T, eqb, ltb}
 use lib.ListN.{length}
 use Rattle.rules.specs.Ranges.{between}
-use Rattle.rules.specs.YardFile.{tag, size, past, fields, layout, bytes-in, limit, times, cut-short, unknown, wrong-length, out-of-order, too-many, faulty, fault-among, fault}
+use Rattle.rules.specs.YardFile.{tag, past, fields, layout, bytes-in, limit, times, cut-short, unknown, wrong-length, out-of-order, too-many, faulty, fault-among, fault}
 use Rattle.rules.proofs.Tests.{tests}
-use Rattle.yardfile.specs.declared.run.Run.{Run}
-use Rattle.yardfile.specs.Runs.{IsField, Follow, Ran, after}
+use Rattle.yardfile.specs.Runs.{IsField, Follow, after}
 use Rattle.yardfile.proofs.Places.{fields-next, fields-end}
 
 -- five tests, of which none or one applies

@@ -1,6 +1,6 @@
 -- Runs grow by a field at their end, and the byte after a run is known from how many fields it has.
 -- Assumes nothing.
-use mathlib.Core.Path.{_≡_, refl, sym, _∙_}
+use mathlib.Core.Path.{_≡_, refl, sym}
 use mathlib.Core.List.{List}
 use Prim.Native.Nat.{ℕ, zero, suc, _+_, _*_, _≤_, _<_}
 use native.Mathlib.Nat.{suc-mul}
@@ -8,7 +8,6 @@ use native.Mathlib.Numerals.{add-one}
 use native.Mathlib.Omega.{arith}
 use lib.ListN.{length}
 use Rattle.rules.specs.YardFile.{layout, bytes-in, limit}
-use Rattle.yardfile.specs.declared.run.Run.{Run}
 use Rattle.yardfile.specs.Runs.{IsField, Follow, Ran, after}
 
 follow-one : (s : List ℕ) (t n p : ℕ) → Follow s t n p → IsField s t (after t n p) → Follow s t (suc n) p

@@ -2,7 +2,7 @@
 -- Assumes nothing.
 use mathlib.Core.Path.{_≡_, refl, sym, ap, _∙_}
 use mathlib.Core.Bool.{Bool, true, false, _&&_}
-use mathlib.Core.Option.{none, some}
+use mathlib.Core.Option.{some}
 use mathlib.Core.List.{List}
 use Prim.Native.Nat.{ℕ, _*_, _≤_}
 use lib.Dec.{T, leb}
@@ -17,7 +17,7 @@ use Rattle.yardfile.specs.declared.Surveyed.the-variants.{Fault, Fine}
 use Rattle.yardfile.specs.Runs.{rows-of}
 use Rattle.yardfile.specs.Parts.{Whole, Surveys}
 use Rattle.yardfile.proofs.Writing.{length-rows, stored}
-use Rattle.yardfile.proofs.Tables.{Has, Tables, tables}
+use Rattle.yardfile.proofs.Tables.{Has, tables}
 
 -- what each answer of the survey says
 pub told-fault : (s : List ℕ) {r : Surveyed} {p : ℕ} → Surveys s r → r ≡ Fault p → fault s ≡ some p

@@ -1,14 +1,14 @@
 -- The tables and counts of a file that is made of runs: each table is what one run holds.
 -- Assumes nothing.
-use mathlib.Core.Path.{_≡_, refl, sym, ap, _∙_}
-use mathlib.Core.List.{List, [], _∷_, _++_, append-nil}
+use mathlib.Core.Path.{_≡_, refl, ap}
+use mathlib.Core.List.{List, [], _++_}
 use Prim.Native.Nat.{ℕ, zero, suc, _+_, _≤_}
 use native.Mathlib.Omega.{arith}
 use borrow.Author.Tests.{eq-eqb, ne-eqb}
 use lib.ListN.{length, getD, take, drop}
-use Rattle.rules.specs.YardFile.{number, fields, layout, bytes-in, numbers, rows, table, tagged, count}
+use Rattle.rules.specs.YardFile.{number, fields, layout, bytes-in, numbers, rows, table, tagged}
 use Rattle.yardfile.specs.declared.Parts.{Parts}
-use Rattle.yardfile.specs.Runs.{IsField, Follow, after, rows-of}
+use Rattle.yardfile.specs.Runs.{Follow, after, rows-of}
 use Rattle.yardfile.specs.Parts.{Whole}
 use Rattle.yardfile.proofs.Places.{fields-end}
 use Rattle.yardfile.proofs.Faults.{next-field}

@@ -24,7 +24,9 @@ pub(crate) fn two_bytes(file: &[u8], k: usize) -> u32
     requires { ⌜ k + 2 ≤ length (now file) ⌝ }
     ensures { λ r. ⌜ (r ≡ number (take 2 (drop k (now (file .entry))))) × (r < 65536) ⌝ }
 {
-    byte(file[k]) * 256 + byte(file[k + 1])
+    let high = byte(file[k]);
+    let low = byte(file[k + 1]);
+    high * 256 + low
 }
 
 // The number of four bytes.
@@ -32,7 +34,9 @@ fn four_bytes(file: &[u8], k: usize) -> u32
     requires { ⌜ k + 4 ≤ length (now file) ⌝ }
     ensures { λ r. ⌜ r ≡ number (take 4 (drop k (now (file .entry)))) ⌝ }
 {
-    two_bytes(file, k) * 65536 + two_bytes(file, k + 2)
+    let high = two_bytes(file, k);
+    let low = two_bytes(file, k + 2);
+    high * 65536 + low
 }
 
 // The number of 1, 2 or 4 bytes.

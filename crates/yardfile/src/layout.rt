@@ -18,15 +18,24 @@ pub(crate) fn field_bytes(tag: u8) -> usize
     }
 }
 
+// V comes once; and how many sections, turns and queries a file has at most.
+const ONCE: u32 = 1;
+
+const MOST_SECTIONS: u32 = 1024;
+
+const MOST_TURNS: u32 = 768;
+
+const MOST_QUERIES: u32 = 256;
+
 // How many fields of a tag there may be.
 pub(crate) fn most(tag: u8) -> u32
     ensures { λ r. ⌜ (r ≡ limit tag) × (r ≤ 1024) ⌝ }
 {
     match tag {
-        1 => 1,
-        2 => 1024,
-        3 => 768,
-        4 => 256,
+        1 => ONCE,
+        2 => MOST_SECTIONS,
+        3 => MOST_TURNS,
+        4 => MOST_QUERIES,
         _ => 0,
     }
 }
@@ -44,6 +53,7 @@ pub(crate) fn columns(tag: u8) -> usize
     }
 }
 
+// The bytes of each number of a section and of a query.
 const SECTION: [usize; 6] = [2, 2, 4, 1, 4, 4];
 
 const QUERY: [usize; 5] = [4, 2, 1, 2, 1];

@@ -1,7 +1,5 @@
 // Runs: fields of one tag that follow each other. Tags never fall, so a yard file is a run of each tag in turn.
-ghost use mathlib.Core.Path.{_≡_};
 ghost use Rattle.yardfile.specs.Runs.{IsField, Says, Ran};
-use crate::bytes::wide;
 use crate::layout::field_bytes;
 use crate::layout::most;
 use crate::reader::Field;

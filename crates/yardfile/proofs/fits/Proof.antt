@@ -1,9 +1,8 @@
 -- `fits` meets its contract: a width times a count is the length of a table.
 -- Assumes nothing.
-use mathlib.Core.Path.{_≡_}
 use native.Mathlib.Omega.{arith}
 use borrow.Author.Needs.{needs}
-use Rattle.rules.proofs.Tests.{tests, gives-true, gives-false, gives-same}
+use Rattle.rules.proofs.Tests.{tests, gives-false, gives-same}
 use Rattle.yardfile.proofs.fits.Statement.{statement}
 use Rattle.yardfile.proofs.fits.Tie as tie
 

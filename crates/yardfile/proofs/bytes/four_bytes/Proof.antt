@@ -9,14 +9,14 @@ use Rattle.yardfile.proofs.bytes.four_bytes.Tie as tie
 two-bytes-requires : tie.Need-two-bytes-requires
 two-bytes-requires c κs = search needs
 
-mul-result : tie.Need-mul-result
-mul-result c = search needs
-
 add-two-bytes : tie.Need-add-two-bytes
 add-two-bytes c = search needs
 
 two-bytes-requires-2 : tie.Need-two-bytes-requires-2
 two-bytes-requires-2 c κs = search needs
+
+mul-result : tie.Need-mul-result
+mul-result c = search needs
 
 add-result : tie.Need-add-result
 add-result c = search needs
@@ -30,4 +30,4 @@ returns c =
 pub four-bytes-spec : {M : Type 1} → statement M
 four-bytes-spec =
     tie.close
-    (tie.spec two-bytes-requires mul-result add-two-bytes two-bytes-requires-2 add-result returns)
+    (tie.spec two-bytes-requires add-two-bytes two-bytes-requires-2 mul-result add-result returns)

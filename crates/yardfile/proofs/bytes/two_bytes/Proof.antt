@@ -12,9 +12,6 @@ shared-slice-read-byte c = search needs
 byte-requires : tie.Need-byte-requires
 byte-requires c κs = search needs
 
-mul-result : tie.Need-mul-result
-mul-result c = search needs
-
 add-byte : tie.Need-add-byte
 add-byte c = search needs
 
@@ -23,6 +20,9 @@ shared-slice-read-byte-2 c = search needs
 
 byte-requires-2 : tie.Need-byte-requires-2
 byte-requires-2 c κs = search needs
+
+mul-result : tie.Need-mul-result
+mul-result c = search needs
 
 add-result : tie.Need-add-result
 add-result c = search needs
@@ -39,9 +39,9 @@ two-bytes-spec =
     (tie.spec
     shared-slice-read-byte
     byte-requires
-    mul-result
     add-byte
     shared-slice-read-byte-2
     byte-requires-2
+    mul-result
     add-result
     returns)

@@ -1,7 +1,6 @@
 -- `run::run_from` meets its contract. The loop's invariant: so many fields of the tag are passed, and `end` is the byte after them.
 -- The measure is how many more there may be.
 -- Assumes nothing.
-use mathlib.Core.Path.{sym, _∙_}
 use Prim.Native.Nat.{_-_}
 use native.Mathlib.Omega.{arith}
 use borrow.Author.Needs.{needs}
