@@ -214,6 +214,26 @@ void no_route() {
     gives("no pull-out, a number before the turn", spur, asked, with_labels(cut, {{2, 3600}}), {18, 6});
 }
 
+// Section 1 leads from the start to the far end of the finish section 2; behind the finish point is a balloon. Over the
+// finish section a walk could come to the finish point, and from the balloon end there.
+void over_the_finish_section() {
+    Plan plan{6, {}, {}};
+    plan.join(0, 1, 100, 1);
+    plan.join(1, 2, 10);
+    plan.join(2, 3, 50, 1);
+    plan.join(3, 4, 100);
+    plan.join(3, 5, 200);
+    plan.join(4, 5, 400);
+    plan.occupy(0, 0, 70);
+    const Query query{30, 0, 1, 2, 1};
+    const List labels{none, none, none, none, none, 750, 50, 650, 50, 550, 150, 250};
+    gives("only over the finish section", plan, query, {0, {}, labels}, {});
+    gives("a step onto the finish section", plan, query, {1, {3, 5, 7, 11, 8}, labels}, {17});
+    gives("an end over the finish section", plan, query, {1, {3, 5}, labels}, {17});
+    gives("labels over the finish section", plan, query,
+          {0, {}, {none, 810, none, 800, none, 750, 50, 650, 50, 550, 150, 250}}, {19});
+}
+
 // From section 0 into a ring of sections 1 to 3, past the finish at its first point: a walk can go round any number of
 // times. The first distance is 10,000, the finish room 30,000.
 Plan ring(uint32_t first, uint32_t second, uint32_t third) {
@@ -248,7 +268,8 @@ void longer_walks() {
     walk("the other way", {6, 4}, {19});
     walk("past an end, and not to one", {3, 5, 7}, {17});
     walk("past an end to another, an arrival twice", {6, 4, 2, 6, 4}, {19});
-    walk("past an end to another", {3, 5, 7, 6}, {17});
+    walk("back over the section it came by", {3, 5, 7, 6}, {17});
+    gives("an end, and a step from it", plan, into_the_ring, with_labels({1, {3}, labels}, {{5, 0}}), {18, 3});
     // The start label that fits the longer walk breaks a rule.
     gives("once round, labelled so", plan, into_the_ring, with_labels({1, rounds(1), labels}, {{1, 31900}}), {18, 1});
     gives("once round, all labelled so", plan, into_the_ring,
@@ -324,6 +345,9 @@ void back_to_the_start() {
     gives("not alone", plan, {29, 0, 1, 0, 0}, sheet(50), {0, 0, 220, 0, 2});
     gives("alone, with less room", plan, {30, 0, 1, 0, 0}, sheet(50), {19});
     gives("not alone, with more room", plan, {29, 0, 1, 0, 0}, sheet(100), {18, 5});
+    const Sheet other_way{1, {4, 2}, {250, none, 100, none, 170, none}};
+    gives("the other way", plan, {30, 0, 0, 0, 1}, other_way, {0, 0, 300, 0, 2});
+    gives("the other way, the first label", plan, {30, 0, 0, 0, 1}, with_labels(other_way, {{0, 251}}), {18, 0});
 }
 
 void label_lengths() {
@@ -693,6 +717,7 @@ int main() {
     no_walks();
     no_steps();
     no_route();
+    over_the_finish_section();
     longer_walks();
     past_32_bits();
     other_shortest_walks();
