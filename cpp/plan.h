@@ -1,6 +1,7 @@
 // A plan's numbers as the library takes them, and ways to write one down.
 #pragma once
 #include <cstdint>
+#include <functional>
 #include <initializer_list>
 #include <vector>
 
@@ -24,6 +25,11 @@ struct Plan {
         sections[6 * section + 5] = from_b;
     }
 };
+
+inline Plan with(Plan plan, const std::function<void(Plan &)> &change) {
+    change(plan);
+    return plan;
+}
 
 inline const Plan yard_y{6,
                          {0, 1, 3000, 1, 3000, 3000, //
