@@ -93,7 +93,8 @@ order-again t u zero us = refl
 order-again t u (suc n) us = order-again t u n (t ∷ us)
 
 -- no field of a run is faulty
-fault-run : (s : List ℕ) (t n p : ℕ) (before : List ℕ) → T (between 1 t 4) → T (not (out-of-order before t)) → times t before + n ≤ limit t → Follow s t n p
+fault-run : (s : List ℕ) (t n p : ℕ) (before : List ℕ) → T (between 1 t 4) → T (not (out-of-order before t)) → times t before + n ≤ limit t
+    → Follow s t n p
     → fault-among s before (fields s p) ≡ fault-among s (again t n before) (fields s (after t n p))
 fault-run s t zero p before k o l f = refl
 fault-run s t (suc n) p before k o l f =
@@ -125,8 +126,8 @@ first-run {s} f =
     low u h k l = let b = simp tests at k in let e : u ≡ 1 = omega arith in let m = rw e at l in omega arith
 
 -- one run more
-pub run-more : {s : List ℕ} {t : ℕ} {before : List ℕ} {p : ℕ} (n q : ℕ) → UpTo s t before p → T (between 1 (suc t) 4) → Follow s (suc t) n p → q ≡ after (suc t) n p
-    → n ≤ limit (suc t) → (n < limit (suc t) → IsField s (suc t) q → ⊥) → UpTo s (suc t) (again (suc t) n before) q
+pub run-more : {s : List ℕ} {t : ℕ} {before : List ℕ} {p : ℕ} (n q : ℕ) → UpTo s t before p → T (between 1 (suc t) 4)
+    → Follow s (suc t) n p → q ≡ after (suc t) n p → n ≤ limit (suc t) → (n < limit (suc t) → IsField s (suc t) q → ⊥) → UpTo s (suc t) (again (suc t) n before) q
 run-more {s} {t} {before} {p} n q u k f e l stop =
     let zero-before = u .none-above (suc t) (omega arith) in
     record {
