@@ -45,7 +45,7 @@ returns-2 c =
     let a = at-entry .args in
     let lent = lent-of (a .sections .now) (a .turns .now) (a .queries .now) in
     let room = tested (at-entry .pre) lent (test .before .fits2 .ensures) (not-false _ (test .if1 .left)) in
-    answered lent (at-entry .pre) room (c .two-bytes .ensures .0) (written .put-tables .ensures)
+    answered lent {out = lent-of _ _ _} (at-entry .pre) room (c .two-bytes .ensures .0) (written .put-tables .ensures)
 
 pub read-whole-spec : {M : Type 1} → statement M
 read-whole-spec =
