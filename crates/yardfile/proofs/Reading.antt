@@ -5,16 +5,18 @@ use mathlib.Core.Bool.{Bool, true, false}
 use mathlib.Core.Option.{some}
 use mathlib.Core.List.{List}
 use Prim.Native.Nat.{ℕ, _*_, _≤_}
+use native.Mathlib.Omega.{arith}
 use lib.Dec.{T}
 use lib.ListN.{length, take, drop}
 use lib.Seq.{sets}
-use Rattle.rules.specs.Refusals.{refused-at}
-use Rattle.rules.specs.YardFile.{number, layout, table, fault, Lent, lent-of, Reading, unread, in-front, in-fronts, holds, read}
+use Rattle.rules.specs.YardFile.{number, layout, table, fault, Lent, lent-of, in-front, in-fronts, holds}
 use Rattle.rules.proofs.Tests.{tests}
 use Rattle.yardfile.specs.declared.Parts.{Parts}
 use Rattle.yardfile.specs.declared.Surveyed.{Surveyed}
 use Rattle.yardfile.specs.declared.Surveyed.the-variants.{Fault, Fine}
+use Rattle.yardfile.specs.declared.Read.the-variants.{Yard, Refused}
 use Rattle.yardfile.specs.Runs.{rows-of}
+use Rattle.yardfile.specs.Answer.{Answers}
 use Rattle.yardfile.specs.Parts.{Whole, Surveys, parts-fit}
 use Rattle.yardfile.proofs.Writing.{length-rows, stored}
 use Rattle.yardfile.proofs.Tables.{Has, tables}
@@ -83,17 +85,18 @@ in-places {s} {h} lent w r d e f =
     rw (x, y, z) refl
 
 -- the answers
-pub refused-20 : (s : List ℕ) {p : ℕ} (lent : Lent) → fault s ≡ some p → unread (refused-at 20 p) lent ≡ read s lent
-refused-20 s lent e = rw e refl
+pub refused-20 : (s : List ℕ) {p : ℕ} (lent : Lent) → fault s ≡ some p → Answers s lent (Refused 20 p) lent
+refused-20 s lent e = record { numbers = rw e refl; numbered = λ n. omega (arith, n) }
 
-pub refused-14 : {s : List ℕ} {h : Parts} (lent : Lent) → Whole s h → holds lent s ≡ false → unread (refused-at 14 0) lent ≡ read s lent
-refused-14 lent w e = rw (w .sound, e) refl
+pub refused-14 : {s : List ℕ} {h : Parts} (lent : Lent) → Whole s h → holds lent s ≡ false → Answers s lent (Refused 14 0) lent
+refused-14 lent w e = record { numbers = rw (w .sound, e) refl; numbered = λ n. omega (arith, n) }
 
 pub answered : {s : List ℕ} {h : Parts} {v : ℕ} (lent : Lent) {out : Lent} → Whole s h → holds lent s ≡ true
     → v ≡ number (take 2 (drop 3 s)) → out ≡ in-fronts s lent
-    → _≡_ {A = Reading}
-    record { refusal = 0; place = 0; points = v; sections = h .sections .count; turns = h .turns .count; queries = h .queries .count; tables = out }
-    (read s lent)
+    → Answers s lent (Yard v (h .sections .count) (h .turns .count) (h .queries .count)) out
 answered lent w e f g =
     let k = tables w in
-    rw (w .sound, e, f, g, k .points, k .sections .counted, k .turns .counted, k .queries .counted) refl
+    record {
+      numbers = rw (w .sound, e, f, g, k .points, k .sections .counted, k .turns .counted, k .queries .counted) refl;
+      numbered = tt;
+    }

@@ -7,9 +7,9 @@ pub mod run;
 
 ghost use mathlib.Core.Path.{_≡_};
 ghost use lib.Dec.{T};
-ghost use Rattle.rules.specs.YardFile.{lent-of, in-fronts, holds, read};
+ghost use Rattle.rules.specs.YardFile.{lent-of, in-fronts, holds};
 ghost use Rattle.yardfile.specs.Parts.{Parted, Whole, Surveys, parts-fit};
-ghost use Rattle.yardfile.specs.Answer.{reading-of};
+ghost use Rattle.yardfile.specs.Answer.{Answers};
 use bytes::two_bytes;
 use bytes::wide;
 use rows::put_rows;
@@ -108,7 +108,7 @@ fn read_whole(
     queries: &mut [u32],
 ) -> Read
     requires { ⌜ Whole (now file) parts ⌝ }
-    ensures { λ r. ⌜ reading-of r (lent-of (now (sections .exit)) (now (turns .exit)) (now (queries .exit))) ≡ read (now (file .entry)) (lent-of (now (sections .entry)) (now (turns .entry)) (now (queries .entry))) ⌝ }
+    ensures { λ r. ⌜ Answers (now (file .entry)) (lent-of (now (sections .entry)) (now (turns .entry)) (now (queries .entry))) r (lent-of (now (sections .exit)) (now (turns .exit)) (now (queries .exit))) ⌝ }
 {
     if !fits(parts, sections.len(), turns.len(), queries.len()) {
         return Read::Refused(14, 0);
@@ -125,7 +125,7 @@ fn read_whole(
 
 // Reads a yard file into the fronts of three lent tables: any bytes, any lengths.
 pub fn read_yard(file: &[u8], sections: &mut [u32], turns: &mut [u32], queries: &mut [u32]) -> Read
-    ensures { λ r. ⌜ reading-of r (lent-of (now (sections .exit)) (now (turns .exit)) (now (queries .exit))) ≡ read (now (file .entry)) (lent-of (now (sections .entry)) (now (turns .entry)) (now (queries .entry))) ⌝ }
+    ensures { λ r. ⌜ Answers (now (file .entry)) (lent-of (now (sections .entry)) (now (turns .entry)) (now (queries .entry))) r (lent-of (now (sections .exit)) (now (turns .exit)) (now (queries .exit))) ⌝ }
 {
     match survey(file) {
         Surveyed::Fault(place) => Read::Refused(20, place),
