@@ -1,4 +1,4 @@
--- The numbers of a field have 1, 2 or 4 bytes; those of a turn and of V have 2.
+-- The numbers of a field have 1, 2 or 4 bytes, those of a turn and of V have 2, and no other tag has numbers.
 -- Assumes nothing.
 use mathlib.Core.Path.{_≡_, refl}
 use mathlib.Core.List.{List, [], _∷_}
@@ -10,6 +10,9 @@ use borrow.Author.Tests.{ne-eqb}
 use lib.ListN.{length, getD}
 use Rattle.rules.specs.YardFile.{layout}
 use Rattle.yardfile.specs.Widths.{Width}
+
+pub no-layout : (t : ℕ) → (t ≡ 1 → ⊥) → (t ≡ 2 → ⊥) → (t ≡ 3 → ⊥) → (t ≡ 4 → ⊥) → layout t ≡ []
+no-layout t a b c d = rw (ne-eqb t 1 a, ne-eqb t 2 b, ne-eqb t 3 c, ne-eqb t 4 d) refl
 
 abbrev All-widths : List ℕ → Type 0
 All-widths [] = Unit
@@ -37,7 +40,7 @@ layouts t = go (ℕ-discrete t 1) (ℕ-discrete t 2) (ℕ-discrete t 3) (ℕ-dis
     go (no a) (yes e) c d = rw e (two, (two, (four, (one, (four, (four, tt))))))
     go (no a) (no b) (yes e) d = rw e (two, (two, tt))
     go (no a) (no b) (no c) (yes e) = rw e (four, (two, (one, (two, (one, tt)))))
-    go (no a) (no b) (no c) (no d) = rw (ne-eqb t 1 a, ne-eqb t 2 b, ne-eqb t 3 c, ne-eqb t 4 d) tt
+    go (no a) (no b) (no c) (no d) = rw (no-layout t a b c d) tt
 
 pub column-width : (t i : ℕ) → i < length (layout t) → Width (getD (layout t) i 0)
 column-width t i h = at-width (layout t) (layouts t) i h
@@ -51,4 +54,4 @@ twos t i b d h = go (ℕ-discrete t 1) (ℕ-discrete t 3) i h
     go (no a) (yes e) zero l = rw e refl
     go (no a) (yes e) (suc zero) l = rw e refl
     go (no a) (yes e) (suc (suc i)) l = let k = rw e at l in absurd (omega arith)
-    go (no a) (no c) i l = let k = rw (ne-eqb t 1 a, ne-eqb t 2 b, ne-eqb t 3 c, ne-eqb t 4 d) at l in absurd (omega arith)
+    go (no a) (no c) i l = let k = rw (no-layout t a b c d) at l in absurd (omega arith)

@@ -1,7 +1,7 @@
 -- The first fault of a file that is read run by run: it stands where the runs end, unless that is the end of the file.
 -- Assumes nothing.
 use mathlib.Core.Path.{_≡_, refl, _∙_}
-use mathlib.Core.Bool.{Bool, true, false, cond, not, _||_}
+use mathlib.Core.Bool.{Bool, true, false, cond, not, _||_, true≢false}
 use mathlib.Core.Option.{none, some}
 use mathlib.Core.List.{List, [], _∷_}
 use Prim.Native.Nat.{ℕ, zero, suc, _+_, _≤_, _<_}
@@ -16,7 +16,7 @@ use Rattle.rules.proofs.Tests.{tests}
 use Rattle.yardfile.specs.Runs.{IsField, Follow, after}
 use Rattle.yardfile.proofs.Places.{fields-next, fields-end}
 
--- five tests, of which none or one applies
+-- five tests of which none applies
 none-of : (a b c d e : Bool) → T (not a) → T (not b) → T (not c) → T (not d) → T (not e) → (a || b || c || d || e) ≡ false
 none-of false false false false false t u v w x = refl
 none-of true b c d e t u v w x = absurd t
@@ -27,11 +27,11 @@ none-of false false false false true t u v w x = absurd x
 
 all-not : (a b c d e : Bool) → (a || b || c || d || e) ≡ false → T (not a) × T (not b) × T (not c) × T (not d) × T (not e)
 all-not false false false false false q = (tt, tt, tt, tt, tt)
-all-not true b c d e q = let n : true ≡ false = q in let m : _≡_ {A = ℕ} 0 1 = cc in absurd (omega arith)
-all-not false true c d e q = let n : true ≡ false = q in let m : _≡_ {A = ℕ} 0 1 = cc in absurd (omega arith)
-all-not false false true d e q = let n : true ≡ false = q in let m : _≡_ {A = ℕ} 0 1 = cc in absurd (omega arith)
-all-not false false false true e q = let n : true ≡ false = q in let m : _≡_ {A = ℕ} 0 1 = cc in absurd (omega arith)
-all-not false false false false true q = let n : true ≡ false = q in let m : _≡_ {A = ℕ} 0 1 = cc in absurd (omega arith)
+all-not true b c d e q = absurd (true≢false q)
+all-not false true c d e q = absurd (true≢false q)
+all-not false false true d e q = absurd (true≢false q)
+all-not false false false true e q = absurd (true≢false q)
+all-not false false false false true q = absurd (true≢false q)
 
 -- a field that is not faulty, clause by clause
 pub record Good (s before : List ℕ) (t p : ℕ) : Type 0 where
@@ -93,7 +93,8 @@ order-again t u zero us = refl
 order-again t u (suc n) us = order-again t u n (t ∷ us)
 
 -- no field of a run is faulty
-fault-run : (s : List ℕ) (t n p : ℕ) (before : List ℕ) → T (between 1 t 4) → T (not (out-of-order before t)) → times t before + n ≤ limit t → Follow s t n p
+fault-run : (s : List ℕ) (t n p : ℕ) (before : List ℕ) → T (between 1 t 4) → T (not (out-of-order before t)) → times t before + n ≤ limit t
+    → Follow s t n p
     → fault-among s before (fields s p) ≡ fault-among s (again t n before) (fields s (after t n p))
 fault-run s t zero p before k o l f = refl
 fault-run s t (suc n) p before k o l f =
@@ -125,8 +126,9 @@ first-run {s} f =
     low u h k l = let b = simp tests at k in let e : u ≡ 1 = omega arith in let m = rw e at l in omega arith
 
 -- one run more
-pub run-more : {s : List ℕ} {t : ℕ} {before : List ℕ} {p : ℕ} (n q : ℕ) → UpTo s t before p → T (between 1 (suc t) 4) → Follow s (suc t) n p → q ≡ after (suc t) n p
-    → n ≤ limit (suc t) → (n < limit (suc t) → IsField s (suc t) q → ⊥) → UpTo s (suc t) (again (suc t) n before) q
+pub run-more : {s : List ℕ} {t : ℕ} {before : List ℕ} {p : ℕ} (n q : ℕ) → UpTo s t before p → T (between 1 (suc t) 4)
+    → Follow s (suc t) n p → q ≡ after (suc t) n p → n ≤ limit (suc t) → (n < limit (suc t) → IsField s (suc t) q → ⊥)
+    → UpTo s (suc t) (again (suc t) n before) q
 run-more {s} {t} {before} {p} n q u k f e l stop =
     let zero-before = u .none-above (suc t) (omega arith) in
     record {

@@ -1,4 +1,4 @@
--- The laws that the proofs of this crate's functions share.
+-- The laws that the proofs of this crate's functions share, and that what the reader answers is determined.
 pub mod BigEndian
 pub mod ColumnWidths
 pub mod Finding
@@ -9,3 +9,4 @@ pub mod Faults
 pub mod Surveying
 pub mod Tables
 pub mod Reading
+pub mod Unique

@@ -1,21 +1,23 @@
 -- What the reader answers, from the runs of a file without a fault and from the first fault of any other.
 -- Assumes nothing.
 use mathlib.Core.Path.{_≡_, refl, sym, ap, _∙_}
-use mathlib.Core.Bool.{Bool, true, false, _&&_}
+use mathlib.Core.Bool.{Bool, true, false}
 use mathlib.Core.Option.{some}
 use mathlib.Core.List.{List}
 use Prim.Native.Nat.{ℕ, _*_, _≤_}
-use lib.Dec.{T, leb}
+use native.Mathlib.Omega.{arith}
+use lib.Dec.{T}
 use lib.ListN.{length, take, drop}
 use lib.Seq.{sets}
-use Rattle.rules.specs.Refusals.{refused-at}
-use Rattle.rules.specs.YardFile.{number, layout, table, fault, Lent, lent-of, Reading, unread, in-front, in-fronts, holds, read}
+use Rattle.rules.specs.YardFile.{number, layout, table, fault, Lent, lent-of, in-front, in-fronts, holds}
 use Rattle.rules.proofs.Tests.{tests}
 use Rattle.yardfile.specs.declared.Parts.{Parts}
 use Rattle.yardfile.specs.declared.Surveyed.{Surveyed}
 use Rattle.yardfile.specs.declared.Surveyed.the-variants.{Fault, Fine}
+use Rattle.yardfile.specs.declared.Read.the-variants.{Yard, Refused}
 use Rattle.yardfile.specs.Runs.{rows-of}
-use Rattle.yardfile.specs.Parts.{Whole, Surveys}
+use Rattle.yardfile.specs.Answer.{Answers}
+use Rattle.yardfile.specs.Parts.{Whole, Surveys, parts-fit}
 use Rattle.yardfile.proofs.Writing.{length-rows, stored}
 use Rattle.yardfile.proofs.Tables.{Has, tables}
 
@@ -46,12 +48,11 @@ lengths {s} {h} w =
 
 -- the test of the three lengths
 fits-holds : {s : List ℕ} {h : Parts} → Whole s h → (lent : Lent)
-    → (leb (h .sections .count * 6) (length (lent .sections)) && leb (h .turns .count * 2) (length (lent .turns)) && leb (h .queries .count * 5) (length (lent .queries))) ≡ holds lent s
+    → parts-fit h (length (lent .sections)) (length (lent .turns)) (length (lent .queries)) ≡ holds lent s
 fits-holds w lent = let l = lengths w in rw (l .sections, l .turns, l .queries) refl
 
 pub tested : {s : List ℕ} {h : Parts} {r b : Bool} → Whole s h → (lent : Lent)
-    → r ≡ (leb (h .sections .count * 6) (length (lent .sections)) && leb (h .turns .count * 2) (length (lent .turns)) && leb (h .queries .count * 5) (length (lent .queries)))
-    → r ≡ b → holds lent s ≡ b
+    → r ≡ parts-fit h (length (lent .sections)) (length (lent .turns)) (length (lent .queries)) → r ≡ b → holds lent s ≡ b
 tested w lent e f = sym (e ∙ fits-holds w lent) ∙ f
 
 pub record Room (h : Parts) (lent : Lent) : Type 0 where
@@ -66,12 +67,15 @@ room w lent t =
     record { sections = k .0 .0; turns = k .0 .1; queries = k .1 }
 
 -- what rows leave in a table is the file's table in front
-in-place : (s : List ℕ) (t n p : ℕ) (old : List ℕ) {out : List ℕ} → Has s t 0 n (rows-of s t n p) → out ≡ sets old 0 (rows-of s t n p) → n * length (layout t) ≤ length old
+in-place : (s : List ℕ) (t n p : ℕ) (old : List ℕ) {out : List ℕ} → Has s t 0 n (rows-of s t n p)
+    → out ≡ sets old 0 (rows-of s t n p) → n * length (layout t) ≤ length old
     → out ≡ in-front (table t s) old
 in-place s t n p old h e l = let k = long s t n p h in e ∙ rw (← (h .held)) (stored (table t s) old (rw k l))
 
-pub in-places : {s : List ℕ} {h : Parts} {a b c : List ℕ} (lent : Lent) → Whole s h → Room h lent → a ≡ sets (lent .sections) 0 (rows-of s 2 (h .sections .count) 5)
-    → b ≡ sets (lent .turns) 0 (rows-of s 3 (h .turns .count) (h .sections .end)) → c ≡ sets (lent .queries) 0 (rows-of s 4 (h .queries .count) (h .turns .end))
+pub in-places : {s : List ℕ} {h : Parts} {a b c : List ℕ} (lent : Lent) → Whole s h → Room h lent
+    → a ≡ sets (lent .sections) 0 (rows-of s 2 (h .sections .count) 5)
+    → b ≡ sets (lent .turns) 0 (rows-of s 3 (h .turns .count) (h .sections .end))
+    → c ≡ sets (lent .queries) 0 (rows-of s 4 (h .queries .count) (h .turns .end))
     → lent-of a b c ≡ in-fronts s lent
 in-places {s} {h} lent w r d e f =
     let k = tables w in
@@ -81,14 +85,18 @@ in-places {s} {h} lent w r d e f =
     rw (x, y, z) refl
 
 -- the answers
-pub refused-20 : (s : List ℕ) {p : ℕ} (lent : Lent) → fault s ≡ some p → unread (refused-at 20 p) lent ≡ read s lent
-refused-20 s lent e = rw e refl
+pub refused-20 : (s : List ℕ) {p : ℕ} (lent : Lent) → fault s ≡ some p → Answers s lent (Refused 20 p) lent
+refused-20 s lent e = record { numbers = rw e refl; numbered = λ n. omega (arith, n) }
 
-pub refused-14 : {s : List ℕ} {h : Parts} (lent : Lent) → Whole s h → holds lent s ≡ false → unread (refused-at 14 0) lent ≡ read s lent
-refused-14 lent w e = rw (w .sound, e) refl
+pub refused-14 : {s : List ℕ} {h : Parts} (lent : Lent) → Whole s h → holds lent s ≡ false → Answers s lent (Refused 14 0) lent
+refused-14 lent w e = record { numbers = rw (w .sound, e) refl; numbered = λ n. omega (arith, n) }
 
-pub answered : {s : List ℕ} {h : Parts} {v : ℕ} (lent : Lent) {out : Lent} → Whole s h → holds lent s ≡ true → v ≡ number (take 2 (drop 3 s)) → out ≡ in-fronts s lent
-    → _≡_ {A = Reading} record { refusal = 0; place = 0; points = v; sections = h .sections .count; turns = h .turns .count; queries = h .queries .count; tables = out } (read s lent)
+pub answered : {s : List ℕ} {h : Parts} {v : ℕ} (lent : Lent) {out : Lent} → Whole s h → holds lent s ≡ true
+    → v ≡ number (take 2 (drop 3 s)) → out ≡ in-fronts s lent
+    → Answers s lent (Yard v (h .sections .count) (h .turns .count) (h .queries .count)) out
 answered lent w e f g =
     let k = tables w in
-    rw (w .sound, e, f, g, k .points, k .sections .counted, k .turns .counted, k .queries .counted) refl
+    record {
+      numbers = rw (w .sound, e, f, g, k .points, k .sections .counted, k .turns .counted, k .queries .counted) refl;
+      numbered = tt;
+    }

@@ -9,7 +9,7 @@ use lib.ListN.{length, getD, take, drop}
 use Rattle.rules.specs.YardFile.{number, fields, layout, bytes-in, numbers, rows, table, tagged}
 use Rattle.yardfile.specs.declared.Parts.{Parts}
 use Rattle.yardfile.specs.Runs.{Follow, after, rows-of}
-use Rattle.yardfile.specs.Parts.{Whole}
+use Rattle.yardfile.specs.Parts.{Parted, Whole}
 use Rattle.yardfile.proofs.Places.{fields-end}
 use Rattle.yardfile.proofs.Faults.{next-field}
 
@@ -55,23 +55,35 @@ pub record Tables (s : List ℕ) (h : Parts) : Type 0 where
 pub tables : {s : List ℕ} {h : Parts} → Whole s h → Tables s h
 tables {s} {h} w =
     record {
-      points = ap (λ (l : List ℕ). getD l 0 0) (has-run {s = s} {t = 1} 1 0 (w .first, tt) (to-turns 1 (λ e. omega arith) (to-queries 1 (λ e. omega arith) (to-end 1 (λ e. omega arith)))) .held);
-      sections = past-first 2 (λ e. omega arith) (has-run (h .sections .count) 5 (w .sections .follow) (rw (← (w .sections .ends)) (to-queries 2 (λ e. omega arith) (to-end 2 (λ e. omega arith)))));
-      turns = past-first 3 (λ e. omega arith) (to-turns 3 (λ e. omega arith) (has-run (h .turns .count) (h .sections .end) (w .turns .follow) (rw (← (w .turns .ends)) (to-end 3 (λ e. omega arith)))));
+      points =
+          let none-after = to-turns 1 (λ e. omega arith) (to-queries 1 (λ e. omega arith) (to-end 1 (λ e. omega arith))) in
+          ap (λ (l : List ℕ). getD l 0 0) (has-run {s = s} {t = 1} 1 0 (w .first, tt) none-after .held);
+      sections =
+          let none-after = to-queries 2 (λ e. omega arith) (to-end 2 (λ e. omega arith)) in
+          past-first 2 (λ e. omega arith) (has-run (h .sections .count) 5 (g .sections .follow) (rw (← (g .sections .ends)) none-after));
+      turns =
+          let none-after = to-end 3 (λ e. omega arith) in
+          let here = has-run (h .turns .count) (h .sections .end) (g .turns .follow) (rw (← (g .turns .ends)) none-after) in
+          past-first 3 (λ e. omega arith) (to-turns 3 (λ e. omega arith) here);
       queries =
-          past-first 4 (λ e. omega arith)
-          (to-turns 4 (λ e. omega arith)
-          (to-queries 4 (λ e. omega arith) (has-run (h .queries .count) (h .turns .end) (w .queries .follow) (rw (← (w .queries .ends)) (has-none s 4 (h .queries .end) (w .ends))))));
+          let none-after = has-none s 4 (h .queries .end) (w .ends) in
+          let here = has-run (h .queries .count) (h .turns .end) (g .queries .follow) (rw (← (g .queries .ends)) none-after) in
+          past-first 4 (λ e. omega arith) (to-turns 4 (λ e. omega arith) (to-queries 4 (λ e. omega arith) here));
     }
   where
+    g : Parted s h
+    g = w .parted
+
     past-first : (t : ℕ) → (1 ≡ t → ⊥) → {n : ℕ} {xs : List ℕ} → Has s t 5 n xs → Has s t 0 n xs
     past-first t d k = has-past 1 1 0 d (w .first, tt) k
 
     to-turns : (t : ℕ) → (2 ≡ t → ⊥) → {n : ℕ} {xs : List ℕ} → Has s t (h .sections .end) n xs → Has s t 5 n xs
-    to-turns t d k = has-past 2 (h .sections .count) 5 d (w .sections .follow) (rw (w .sections .ends) at k)
+    to-turns t d k = has-past 2 (h .sections .count) 5 d (g .sections .follow) (rw (g .sections .ends) at k)
 
     to-queries : (t : ℕ) → (3 ≡ t → ⊥) → {n : ℕ} {xs : List ℕ} → Has s t (h .turns .end) n xs → Has s t (h .sections .end) n xs
-    to-queries t d k = has-past 3 (h .turns .count) (h .sections .end) d (w .turns .follow) (rw (w .turns .ends) at k)
+    to-queries t d k = has-past 3 (h .turns .count) (h .sections .end) d (g .turns .follow) (rw (g .turns .ends) at k)
 
     to-end : (t : ℕ) → (4 ≡ t → ⊥) → Has s t (h .turns .end) 0 []
-    to-end t d = has-past 4 (h .queries .count) (h .turns .end) d (w .queries .follow) (rw (w .queries .ends) at (has-none s t (h .queries .end) (w .ends)))
+    to-end t d =
+        let none-after = has-none s t (h .queries .end) (w .ends) in
+        has-past 4 (h .queries .count) (h .turns .end) d (g .queries .follow) (rw (g .queries .ends) at none-after)

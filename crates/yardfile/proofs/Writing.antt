@@ -53,7 +53,8 @@ pub putting-next : {s : List ℕ} {t : ℕ} {old all out : List ℕ} {at n left 
 putting-next {left = zero} g h = absurd (omega arith)
 putting-next {t = t} {left = suc m} g h = let e = suc-mul m (length (layout t)) in (g .follow .0, omega (arith, e, g .room, g .long))
 
-pub putting-more : {s : List ℕ} {t : ℕ} {old all out : List ℕ} {at n left : ℕ} (out′ : List ℕ) (n′ b : ℕ) → Putting s t old all out at n left → 0 < left
+pub putting-more : {s : List ℕ} {t : ℕ} {old all out : List ℕ} {at n left : ℕ} (out′ : List ℕ) (n′ b : ℕ)
+    → Putting s t old all out at n left → 0 < left
     → out′ ≡ sets out n (numbers (layout t) s (at + 3)) → n′ ≡ n + length (layout t) → b ≡ bytes-in (layout t)
     → Putting s t old all out′ (at + 3 + b) n′ (left - 1)
 putting-more {left = zero} out′ n′ b g h e f d = absurd (omega arith)

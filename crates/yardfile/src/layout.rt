@@ -1,13 +1,13 @@
 // How long the fields of each tag are, of which numbers they are made, and how many a file may have.
 ghost use mathlib.Core.Path.{_≡_};
-ghost use Prim.Native.Nat.{_<_, _≤_};
+ghost use Prim.Native.Nat.{_<_};
 ghost use lib.ListN.{length, getD};
 ghost use Rattle.rules.specs.YardFile.{layout, bytes-in, limit};
 ghost use Rattle.yardfile.specs.Widths.{Width};
 
 // The bytes of a field of a tag.
 pub(crate) fn field_bytes(tag: u8) -> usize
-    ensures { λ r. ⌜ (r ≡ bytes-in (layout tag)) × (r ≤ 17) ⌝ }
+    ensures { λ r. ⌜ r ≡ bytes-in (layout tag) ⌝ }
 {
     match tag {
         1 => 2,
@@ -29,7 +29,7 @@ const MOST_QUERIES: u32 = 256;
 
 // How many fields of a tag there may be.
 pub(crate) fn most(tag: u8) -> u32
-    ensures { λ r. ⌜ (r ≡ limit tag) × (r ≤ 1024) ⌝ }
+    ensures { λ r. ⌜ r ≡ limit tag ⌝ }
 {
     match tag {
         1 => ONCE,
@@ -42,7 +42,7 @@ pub(crate) fn most(tag: u8) -> u32
 
 // How many numbers a field of a tag holds.
 pub(crate) fn columns(tag: u8) -> usize
-    ensures { λ r. ⌜ (r ≡ length (layout tag)) × (r ≤ 6) ⌝ }
+    ensures { λ r. ⌜ r ≡ length (layout tag) ⌝ }
 {
     match tag {
         1 => 1,

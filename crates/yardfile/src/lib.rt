@@ -6,12 +6,10 @@ mod rows;
 pub mod run;
 
 ghost use mathlib.Core.Path.{_≡_};
-ghost use mathlib.Core.Bool.{_&&_};
-ghost use Prim.Native.Nat.{_*_};
-ghost use lib.Dec.{T, leb};
-ghost use Rattle.rules.specs.YardFile.{lent-of, in-fronts, holds, read};
-ghost use Rattle.yardfile.specs.Parts.{Whole, Surveys};
-ghost use Rattle.yardfile.specs.Answer.{reading-of};
+ghost use lib.Dec.{T};
+ghost use Rattle.rules.specs.YardFile.{lent-of, in-fronts, holds};
+ghost use Rattle.yardfile.specs.Parts.{Parted, Whole, Surveys, parts-fit};
+ghost use Rattle.yardfile.specs.Answer.{Answers};
 use bytes::two_bytes;
 use bytes::wide;
 use rows::put_rows;
@@ -42,7 +40,21 @@ const POINTS_AT: usize = 3;
 
 const SECTIONS_AT: usize = 5;
 
-// Looks for the first fault.
+// The runs of sections, turns and queries, each from the end of the one before.
+fn parts_of(file: &[u8]) -> Parts
+    ensures { λ r. ⌜ Parted (now (file .entry)) r ⌝ }
+{
+    let sections = run_from(file, SECTIONS_AT, 2);
+    let turns = run_from(file, sections.end, 3);
+    let queries = run_from(file, turns.end, 4);
+    Parts {
+        sections,
+        turns,
+        queries,
+    }
+}
+
+// Looks for the first fault: it stands where the runs end, unless that is the end of the file.
 fn survey(file: &[u8]) -> Surveyed
     ensures { λ r. ⌜ Surveys (now (file .entry)) r ⌝ }
 {
@@ -50,22 +62,17 @@ fn survey(file: &[u8]) -> Surveyed
     if first.count == 0 {
         return Surveyed::Fault(0);
     }
-    let sections = run_from(file, SECTIONS_AT, 2);
-    let turns = run_from(file, sections.end, 3);
-    let queries = run_from(file, turns.end, 4);
-    if queries.end < file.len() {
-        return Surveyed::Fault(queries.end as u32);
+    let parts = parts_of(file);
+    let end = parts.queries.end;
+    if end < file.len() {
+        return Surveyed::Fault(end as u32);
     }
-    Surveyed::Fine(Parts {
-        sections,
-        turns,
-        queries,
-    })
+    Surveyed::Fine(parts)
 }
 
 // The three tables of a file fit lent tables of these lengths.
 fn fits(parts: Parts, sections: usize, turns: usize, queries: usize) -> bool
-    ensures { λ r. ⌜ r ≡ (leb (parts .sections .count * 6) sections && leb (parts .turns .count * 2) turns && leb (parts .queries .count * 5) queries) ⌝ }
+    ensures { λ r. ⌜ r ≡ parts-fit parts sections turns queries ⌝ }
 {
     if sections < wide(parts.sections.count) * 6 {
         return false;
@@ -101,7 +108,7 @@ fn read_whole(
     queries: &mut [u32],
 ) -> Read
     requires { ⌜ Whole (now file) parts ⌝ }
-    ensures { λ r. ⌜ reading-of r (lent-of (now (sections .exit)) (now (turns .exit)) (now (queries .exit))) ≡ read (now (file .entry)) (lent-of (now (sections .entry)) (now (turns .entry)) (now (queries .entry))) ⌝ }
+    ensures { λ r. ⌜ Answers (now (file .entry)) (lent-of (now (sections .entry)) (now (turns .entry)) (now (queries .entry))) r (lent-of (now (sections .exit)) (now (turns .exit)) (now (queries .exit))) ⌝ }
 {
     if !fits(parts, sections.len(), turns.len(), queries.len()) {
         return Read::Refused(14, 0);
@@ -118,7 +125,7 @@ fn read_whole(
 
 // Reads a yard file into the fronts of three lent tables: any bytes, any lengths.
 pub fn read_yard(file: &[u8], sections: &mut [u32], turns: &mut [u32], queries: &mut [u32]) -> Read
-    ensures { λ r. ⌜ reading-of r (lent-of (now (sections .exit)) (now (turns .exit)) (now (queries .exit))) ≡ read (now (file .entry)) (lent-of (now (sections .entry)) (now (turns .entry)) (now (queries .entry))) ⌝ }
+    ensures { λ r. ⌜ Answers (now (file .entry)) (lent-of (now (sections .entry)) (now (turns .entry)) (now (queries .entry))) r (lent-of (now (sections .exit)) (now (turns .exit)) (now (queries .exit))) ⌝ }
 {
     match survey(file) {
         Surveyed::Fault(place) => Read::Refused(20, place),

@@ -8,21 +8,24 @@ use Rattle.yardfile.proofs.put_tables.Tie as tie
 
 put-rows-requires : tie.Need-put-rows-requires
 put-rows-requires c κs =
-    let w = c .before .before .before .before .before .pre .0 in
-    let a = c .before .before .before .before .before .args in
-    (w .sections .follow, room w (lent-of (a .sections .now) (a .turns .now) (a .queries .now)) (c .before .before .before .before .before .pre .1) .sections)
+    let at-entry = c .before .before .before .before .before in
+    let a = at-entry .args in
+    let lent = lent-of (a .sections .now) (a .turns .now) (a .queries .now) in
+    (at-entry .pre .0 .parted .sections .follow, room (at-entry .pre .0) lent (at-entry .pre .1) .sections)
 
 put-rows-requires-2 : tie.Need-put-rows-requires-2
 put-rows-requires-2 c κs =
-    let w = c .before .before .before .before .before .before .before .before .before .pre .0 in
-    let a = c .before .before .before .before .before .before .before .before .before .args in
-    (w .turns .follow, room w (lent-of (a .sections .now) (a .turns .now) (a .queries .now)) (c .before .before .before .before .before .before .before .before .before .pre .1) .turns)
+    let at-entry = c .before .before .before .before .before .before .before .before .before in
+    let a = at-entry .args in
+    let lent = lent-of (a .sections .now) (a .turns .now) (a .queries .now) in
+    (at-entry .pre .0 .parted .turns .follow, room (at-entry .pre .0) lent (at-entry .pre .1) .turns)
 
 put-rows-requires-3 : tie.Need-put-rows-requires-3
 put-rows-requires-3 c κs =
-    let w = c .before .before .before .before .before .before .before .before .before .before .before .before .before .pre .0 in
-    let a = c .before .before .before .before .before .before .before .before .before .before .before .before .before .args in
-    (w .queries .follow, room w (lent-of (a .sections .now) (a .turns .now) (a .queries .now)) (c .before .before .before .before .before .before .before .before .before .before .before .before .before .pre .1) .queries)
+    let at-entry = c .before .before .before .before .before .before .before .before .before .before .before .before .before in
+    let a = at-entry .args in
+    let lent = lent-of (a .sections .now) (a .turns .now) (a .queries .now) in
+    (at-entry .pre .0 .parted .queries .follow, room (at-entry .pre .0) lent (at-entry .pre .1) .queries)
 
 same-length : tie.Need-same-length
 same-length c = search needs
@@ -35,9 +38,13 @@ same-length-3 c = search needs
 
 returns : tie.Need-returns
 returns c =
-    let w = c .before .before .before .before .before .before .before .before .before .before .before .before .before .before .before .before .pre .0 in
-    let a = c .before .before .before .before .before .before .before .before .before .before .before .before .before .before .before .before .args in
-    in-places (lent-of (a .sections .now) (a .turns .now) (a .queries .now)) w (room w (lent-of (a .sections .now) (a .turns .now) (a .queries .now)) (c .before .before .before .before .before .before .before .before .before .before .before .before .before .before .before .before .pre .1)) (c .before .before .before .before .before .before .before .before .before .before .put-rows .ensures) (c .before .before .before .before .before .before .put-rows2 .ensures) (c .before .before .put-rows3 .ensures)
+    let third = c .before .before .put-rows3 in
+    let second = c .before .before .before .before .before .before in
+    let first = second .before .before .before .before in
+    let at-entry = first .before .before .before .before .before .before in
+    let a = at-entry .args in
+    let lent = lent-of (a .sections .now) (a .turns .now) (a .queries .now) in
+    in-places lent (at-entry .pre .0) (room (at-entry .pre .0) lent (at-entry .pre .1)) (first .put-rows .ensures) (second .put-rows2 .ensures) (third .ensures)
 
 pub put-tables-spec : {M : Type 1} → statement M
 put-tables-spec =

@@ -12,15 +12,18 @@ fits-requires c κs = search needs
 
 returns : tie.Need-returns
 returns c =
-    let w = c .before .before .before .before .before .before .pre in
-    let a = c .before .before .before .before .before .before .args in
-    refused-14 (lent-of (a .sections .now) (a .turns .now) (a .queries .now)) w (tested w (lent-of (a .sections .now) (a .turns .now) (a .queries .now)) (c .before .fits2 .ensures) (not-true _ (c .if1 .taken)))
+    let at-entry = c .before .before .before .before .before .before in
+    let a = at-entry .args in
+    let lent = lent-of (a .sections .now) (a .turns .now) (a .queries .now) in
+    refused-14 lent (at-entry .pre) (tested (at-entry .pre) lent (c .before .fits2 .ensures) (not-true _ (c .if1 .taken)))
 
 put-tables-requires : tie.Need-put-tables-requires
 put-tables-requires c κs =
-    let w = c .before .before .before .before .before .before .before .before .before .pre in
-    let a = c .before .before .before .before .before .before .before .before .before .args in
-    (w, rw (tested w (lent-of (a .sections .now) (a .turns .now) (a .queries .now)) (c .before .before .before .before .fits2 .ensures) (not-false _ (c .before .before .before .if1 .left))) tt)
+    let test = c .before .before .before in
+    let at-entry = test .before .before .before .before .before .before in
+    let a = at-entry .args in
+    let lent = lent-of (a .sections .now) (a .turns .now) (a .queries .now) in
+    (at-entry .pre, rw (tested (at-entry .pre) lent (test .before .fits2 .ensures) (not-false _ (test .if1 .left))) tt)
 
 two-bytes-requires : tie.Need-two-bytes-requires
 two-bytes-requires c κs = search needs
@@ -36,9 +39,13 @@ same-length-3 c = search needs
 
 returns-2 : tie.Need-returns-2
 returns-2 c =
-    let w = c .before .before .before .before .before .before .before .before .before .before .before .before .before .before .before .before .before .pre in
-    let a = c .before .before .before .before .before .before .before .before .before .before .before .before .before .before .before .before .before .args in
-    answered (lent-of (a .sections .now) (a .turns .now) (a .queries .now)) w (tested w (lent-of (a .sections .now) (a .turns .now) (a .queries .now)) (c .before .before .before .before .before .before .before .before .before .before .before .before .fits2 .ensures) (not-false _ (c .before .before .before .before .before .before .before .before .before .before .before .if1 .left))) (c .two-bytes .ensures .0) (c .before .before .before .before .before .before .before .put-tables .ensures)
+    let written = c .before .before .before .before .before .before .before in
+    let test = written .before .before .before .before in
+    let at-entry = test .before .before .before .before .before .before in
+    let a = at-entry .args in
+    let lent = lent-of (a .sections .now) (a .turns .now) (a .queries .now) in
+    let room = tested (at-entry .pre) lent (test .before .fits2 .ensures) (not-false _ (test .if1 .left)) in
+    answered lent {out = lent-of _ _ _} (at-entry .pre) room (c .two-bytes .ensures .0) (written .put-tables .ensures)
 
 pub read-whole-spec : {M : Type 1} → statement M
 read-whole-spec =

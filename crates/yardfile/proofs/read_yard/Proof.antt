@@ -16,12 +16,16 @@ enum-known-parts : tie.Need-enum-known-parts
 enum-known-parts c = search needs
 
 read-whole-requires : tie.Need-read-whole-requires
-read-whole-requires c κs = told-whole (c .before .before .before .before .before .before .before .before .before .before .before .args .file .now) (c .before .before .before .before .before .before .survey .ensures) (c .before .before .before .before .parts .given .1)
+read-whole-requires c κs =
+    let told = c .before .before .before .before in
+    let call = told .before .before in
+    told-whole (call .before .before .before .before .before .args .file .now) (call .survey .ensures) (told .parts .given .1)
 
 returns : tie.Need-returns
 returns c =
     let a = c .before .before .before .before .before .before .before .before .args in
-    refused-20 (a .file .now) (lent-of (a .sections .now) (a .turns .now) (a .queries .now)) (told-fault (a .file .now) (c .before .before .before .survey .ensures) (c .before .place .given .1))
+    let lent = lent-of (a .sections .now) (a .turns .now) (a .queries .now) in
+    refused-20 (a .file .now) lent (told-fault (a .file .now) (c .before .before .before .survey .ensures) (c .before .place .given .1))
 
 same-length : tie.Need-same-length
 same-length c = search needs

@@ -26,28 +26,28 @@ add-put-row : tie.Need-add-put-row Inv-loop μ-loop
 add-put-row c =
     let loop = c .before in
     let next = putting-next (loop .loop .inv) (omega arith) in
-    let within = field-within (loop .before .field-bytes .result) (next .0) (loop .before .field-bytes .ensures .0) in
+    let within = field-within (loop .before .field-bytes .result) (next .0) (loop .before .field-bytes .ensures) in
     omega (arith, within)
 
 put-row-requires : tie.Need-put-row-requires Inv-loop μ-loop
 put-row-requires c κs =
     let loop = c .before .before in
     let next = putting-next (loop .loop .inv) (omega arith) in
-    let within = field-within (loop .before .field-bytes .result) (next .0) (loop .before .field-bytes .ensures .0) in
-    (omega (arith, within, loop .before .field-bytes .ensures .0), next .1)
+    let within = field-within (loop .before .field-bytes .result) (next .0) (loop .before .field-bytes .ensures) in
+    (omega (arith, within, loop .before .field-bytes .ensures), next .1)
 
 add-at : tie.Need-add-at Inv-loop μ-loop
 add-at c =
     let loop = c .before .before .before .before .before in
     let next = putting-next (loop .loop .inv) (omega arith) in
-    let within = field-within (loop .before .field-bytes .result) (next .0) (loop .before .field-bytes .ensures .0) in
+    let within = field-within (loop .before .field-bytes .result) (next .0) (loop .before .field-bytes .ensures) in
     omega (arith, within)
 
 add-at-2 : tie.Need-add-at-2 Inv-loop μ-loop
 add-at-2 c =
     let loop = c .before .before .before .before .before in
     let next = putting-next (loop .loop .inv) (omega arith) in
-    let within = field-within (loop .before .field-bytes .result) (next .0) (loop .before .field-bytes .ensures .0) in
+    let within = field-within (loop .before .field-bytes .result) (next .0) (loop .before .field-bytes .ensures) in
     omega (arith, within)
 
 sub-left : tie.Need-sub-left Inv-loop μ-loop
@@ -60,7 +60,7 @@ loop-again : tie.Need-loop-again Inv-loop μ-loop
 loop-again c =
     let loop = c .before .before .before .before .before in
     let row = c .before .before .put-row in
-    putting-more _ _ (loop .before .field-bytes .result) (loop .loop .inv) (omega arith) (row .ensures .1) (row .ensures .0) (loop .before .field-bytes .ensures .0)
+    putting-more _ _ (loop .before .field-bytes .result) (loop .loop .inv) (omega arith) (row .ensures .1) (row .ensures .0) (loop .before .field-bytes .ensures)
 
 same-length : tie.Need-same-length Inv-loop μ-loop
 same-length c = c .before .loop .inv .long

@@ -20,7 +20,7 @@ field-bytes-requires c κs = search needs
 returns : tie.Need-returns
 returns c =
     let told = c .before .before .before in
-    told-field (told .before .before .field-from .ensures) (told .found .given .1) (c .before .if1 .taken) (c .field-bytes .ensures .0)
+    told-field (told .before .before .field-from .ensures) (told .found .given .1) (c .before .if1 .taken) (c .field-bytes .ensures)
 
 returns-2 : tie.Need-returns-2
 returns-2 c = told-cut (c .before .before .before .before .args .tag) (c .before .before .field-from .ensures) (c .enum-told .given .1)

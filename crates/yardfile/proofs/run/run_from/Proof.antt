@@ -35,13 +35,13 @@ returns c =
 add-end : tie.Need-add-end Inv-loop μ-loop
 add-end c =
     let step = c .before .before .before .before .field-bytes in
-    let within = field-within (step .result) (c .before .is-field .ensures .holds (not-false _ (c .if1 .left))) (step .ensures .0) in
+    let within = field-within (step .result) (c .before .is-field .ensures .holds (not-false _ (c .if1 .left))) (step .ensures) in
     omega (arith, within)
 
 add-end-2 : tie.Need-add-end-2 Inv-loop μ-loop
 add-end-2 c =
     let step = c .before .before .before .before .field-bytes in
-    let within = field-within (step .result) (c .before .is-field .ensures .holds (not-false _ (c .if1 .left))) (step .ensures .0) in
+    let within = field-within (step .result) (c .before .is-field .ensures .holds (not-false _ (c .if1 .left))) (step .ensures) in
     omega (arith, within)
 
 add-count : tie.Need-add-count Inv-loop μ-loop
@@ -53,7 +53,8 @@ loop-less c = search needs
 loop-again : tie.Need-loop-again Inv-loop μ-loop
 loop-again c =
     let loop = c .before .before .before in
-    going-more (loop .before .field-bytes .result) (loop .loop .inv) (omega arith) (c .before .is-field .ensures .holds (not-false _ (c .if1 .left))) (loop .before .field-bytes .ensures .0)
+    let step = loop .before .field-bytes in
+    going-more (step .result) (loop .loop .inv) (omega arith) (c .before .is-field .ensures .holds (not-false _ (c .if1 .left))) (step .ensures)
 
 returns-2 : tie.Need-returns-2 Inv-loop μ-loop
 returns-2 c = ran (c .before .loop .inv) (λ l. absurd (omega arith))
