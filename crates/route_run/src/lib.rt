@@ -25,19 +25,25 @@ fn within(n: usize, most: usize) -> usize
     most
 }
 
-// The lines of a yard.
-fn report_yard(points: u32, sections: &[u32], turns: &[u32], queries: &[u32])
-    requires { ⌜ length (now sections) ≤ 6144 ⌝ }
+// The first line of a yard with e sections and t turns.
+fn yard_line(points: u32, e: u32, t: u32) {
+    number(b"YARD ", points);
+    number(b" ", e);
+    number(b" ", t);
+    line_end();
+}
+
+// The lines of a yard, of e sections and t turns.
+fn report_yard(points: u32, e: u32, t: u32, sections: &[u32], turns: &[u32], queries: &[u32])
+    requires { ⌜ (length (now sections) ≤ 6144) × (length (now queries) ≤ 1280) ⌝ }
 {
-    match check_plan(points, sections, turns) {
+    let checked = check_plan(points, sections, turns);
+    match checked {
         Checked::Refused(refusal, place) => {
             refused(b"REFUSED ", refusal, place);
         }
         Checked::Passed => {
-            number(b"YARD ", points as usize);
-            number(b" ", sections.len() / 6);
-            number(b" ", turns.len() / 2);
-            line_end();
+            yard_line(points, e, t);
             answer_queries(points, sections, turns, queries);
         }
     }
@@ -48,7 +54,8 @@ fn report(file: &[u8]) {
     let mut sections = [0; 6144];
     let mut turns = [0; 1536];
     let mut queries = [0; 1280];
-    match read_yard(file, &mut sections, &mut turns, &mut queries) {
+    let read = read_yard(file, &mut sections, &mut turns, &mut queries);
+    match read {
         Read::Refused(refusal, offset) => {
             refused(b"FILE ", refusal, offset);
         }
@@ -56,7 +63,7 @@ fn report(file: &[u8]) {
             let s = within(6 * (e as usize), 6144);
             let u = within(2 * (t as usize), 1536);
             let w = within(5 * (q as usize), 1280);
-            report_yard(points, &sections[..s], &turns[..u], &queries[..w]);
+            report_yard(points, e, t, &sections[..s], &turns[..u], &queries[..w]);
         }
     }
 }

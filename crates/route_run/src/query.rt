@@ -4,7 +4,7 @@ use crate::line::number;
 use crate::line::refused;
 use search::Routed;
 use search::search;
-ghost use Prim.Native.Nat.{_/_, _≤_, _<_};
+ghost use Prim.Native.Nat.{_+_, _≤_, _<_};
 ghost use lib.ListN.{length};
 
 // The number that stands at a place of a table.
@@ -22,7 +22,7 @@ fn arrivals(route: &[u32], steps: usize) {
         if steps <= i {
             return;
         }
-        number(b" ", route[i] as usize);
+        number(b" ", route[i]);
         i += 1;
     }
 }
@@ -31,8 +31,8 @@ fn arrivals(route: &[u32], steps: usize) {
 fn answer(routed: Routed, route: &[u32]) {
     match routed {
         Routed::Found(total, reversals, steps) => {
-            number(b" ROUTE ", total as usize);
-            number(b" ", reversals as usize);
+            number(b" ROUTE ", total);
+            number(b" ", reversals);
             arrivals(route, steps as usize);
             line_end();
         }
@@ -42,48 +42,59 @@ fn answer(routed: Routed, route: &[u32]) {
     }
 }
 
-// Query i, with labels for each arrival.
-fn answer_query(
-    points: u32,
-    sections: &[u32],
-    turns: &[u32],
-    queries: &[u32],
-    i: usize,
-    labels: &mut [u32],
-)
-    requires { ⌜ i < length (now queries) / 5 ⌝ }
+// What a query asks: the train's length, its start and end, its finish and end.
+struct Query {
+    length: u32,
+    start: u32,
+    leave: u32,
+    finish: u32,
+    enter: u32,
+}
+
+// The query whose numbers begin at a place of the table.
+fn query_at(queries: &[u32], at: usize) -> Query
+    requires { ⌜ at + 4 < 18446744073709551616 ⌝ }
+{
+    Query {
+        length: number_at(queries, at),
+        start: number_at(queries, at + 1),
+        leave: number_at(queries, at + 2),
+        finish: number_at(queries, at + 3),
+        enter: number_at(queries, at + 4),
+    }
+}
+
+// One query, with room for the longest walk and a label for each arrival.
+fn answer_query(points: u32, sections: &[u32], turns: &[u32], q: Query)
+    requires { ⌜ length (now sections) ≤ 6144 ⌝ }
 {
     let mut route = [0; 2048];
-    let length = number_at(queries, 5 * i);
-    let start = number_at(queries, 5 * i + 1);
-    let leave = number_at(queries, 5 * i + 2);
-    let finish = number_at(queries, 5 * i + 3);
-    let enter = number_at(queries, 5 * i + 4);
+    let mut labels = [0; 2048];
+    let count = 2 * (sections.len() / 6);
     let routed = search(
         points,
         sections,
         turns,
-        length,
-        start,
-        leave,
-        finish,
-        enter,
+        q.length,
+        q.start,
+        q.leave,
+        q.finish,
+        q.enter,
         &mut route,
-        labels,
+        &mut labels[..count],
     );
-    number(b"", i + 1);
     answer(routed, &route);
 }
 
-// All queries, in their order.
+// All queries, in their order, numbered from 1.
 pub(crate) fn answer_queries(points: u32, sections: &[u32], turns: &[u32], queries: &[u32])
-    requires { ⌜ length (now sections) ≤ 6144 ⌝ }
+    requires { ⌜ (length (now sections) ≤ 6144) × (length (now queries) ≤ 1280) ⌝ }
 {
-    let mut labels = [0; 2048];
-    let count = 2 * (sections.len() / 6);
     let mut i: usize = 0;
     while i < queries.len() / 5 {
-        answer_query(points, sections, turns, queries, i, &mut labels[..count]);
+        let q = query_at(queries, 5 * i);
         i += 1;
+        number(b"", i as u32);
+        answer_query(points, sections, turns, q);
     }
 }

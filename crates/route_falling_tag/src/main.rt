@@ -1,0 +1,4 @@
+// Runs the route program on a turn after a query.
+fn main() {
+    route_run::run();
+}

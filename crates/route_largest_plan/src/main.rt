@@ -1,0 +1,4 @@
+// Runs the route program on the largest plan.
+fn main() {
+    route_run::run();
+}

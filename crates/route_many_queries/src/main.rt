@@ -1,0 +1,4 @@
+// Runs the route program on 256 queries.
+fn main() {
+    route_run::run();
+}

@@ -1,0 +1,4 @@
+// Runs the route program on 257 queries.
+fn main() {
+    route_run::run();
+}

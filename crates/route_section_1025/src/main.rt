@@ -1,0 +1,4 @@
+// Runs the route program on 1,025 sections.
+fn main() {
+    route_run::run();
+}

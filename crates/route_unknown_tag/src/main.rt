@@ -1,0 +1,4 @@
+// Runs the route program on a field of unknown tag.
+fn main() {
+    route_run::run();
+}

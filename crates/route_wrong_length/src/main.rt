@@ -1,0 +1,4 @@
+// Runs the route program on a turn of six bytes.
+fn main() {
+    route_run::run();
+}

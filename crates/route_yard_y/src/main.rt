@@ -1,0 +1,4 @@
+// Runs the route program on yard Y with both queries of document 01.
+fn main() {
+    route_run::run();
+}
