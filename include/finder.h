@@ -41,9 +41,12 @@ extern "C" {
 #define FINDER_NONE 4294967295u
 /* A walk that is handed out has at most so many steps. */
 #define FINDER_STEPS_MOST 2048
-/* How many numbers a section and a turn have in their tables. */
+/* How many numbers a section, a turn and a query have in their tables. */
 #define FINDER_SECTION_WIDTH 6
 #define FINDER_TURN_WIDTH 2
+#define FINDER_QUERY_WIDTH 5
+/* A yard file has at most so many queries. */
+#define FINDER_QUERIES_MOST 256
 
 /* Why a call is refused. Each number comes with a place, 0 where none is named here; the first number that applies is
  * given, at its lowest place. */
@@ -67,7 +70,8 @@ enum finder_refusal {
     FINDER_NO_PULL_OUT = 16,  /* there is no pull-out */
     FINDER_CLAIM = 17,        /* sheet: the claim is not 0 or 1, 0 comes with a list, or 1 with a list that is no admissible walk */
     FINDER_LABEL_RULE = 18,   /* sheet: a label breaks a label rule; place: the arrival */
-    FINDER_START_LABEL = 19   /* sheet: the start label is not what the claim makes it */
+    FINDER_START_LABEL = 19,  /* sheet: the start label is not what the claim makes it */
+    FINDER_FILE = 20          /* yard file: malformed; place: the byte at which the first bad field begins */
 };
 
 /* With a refusal every number but its own and the place is 0. */
@@ -155,6 +159,26 @@ finder_answer finder_check_sheet(uint32_t points, const uint32_t *sections, size
                                  size_t turns_len, uint32_t length, uint32_t start, uint32_t start_end, uint32_t finish,
                                  uint32_t finish_end, uint32_t claim, const uint32_t *list, size_t list_len,
                                  const uint32_t *labels, size_t labels_len);
+
+/* The refusal and its place; the points, and how many sections, turns and queries were written. With a refusal the last four are 0. */
+typedef struct {
+    uint32_t refusal, place, points, sections, turns, queries;
+} finder_yard;
+
+/* Reads a yard file into three lent tables.
+ *   file       any bytes
+ *   sections   on success its front holds six numbers for each section, as finder_search takes them
+ *   turns      two numbers for each forbidden turn
+ *   queries    five numbers for each query: length, start, start_end, finish, finish_end
+ * The rest of each table keeps its contents. Tables for FINDER_SECTIONS_MOST, FINDER_TURNS_MOST and FINDER_QUERIES_MOST rows are
+ * always long enough.
+ * Refusals, in this order: 20 with the offset of the first field that is cut short, unknown, of wrong length, out of order or too
+ * many (0 for an empty file); 14 where a table is too short. A refused call writes nothing. Only the form is judged: a plan that was
+ * read may still be refused by the other functions.
+ * Proved: the answer and every entry of the tables are what the definition `read` of crates/rules/specs/YardFile.antt says
+ * (finder_read_yard's contract in crates/finder/src/lib.rt; theorem answers-unique in crates/yardfile/proofs/Unique.antt). */
+finder_yard finder_read_yard(const uint8_t *file, size_t file_len, uint32_t *sections, size_t sections_len, uint32_t *turns,
+                             size_t turns_len, uint32_t *queries, size_t queries_len);
 
 #ifdef __cplusplus
 }

@@ -3,6 +3,7 @@
 use mathlib.Core.List.{List}
 use Prim.Native.Nat.{ℕ}
 use Rattle.rules.specs.Search.{Numbers, refusal, Result}
+use Rattle.rules.specs.YardFile.{Lent, Reading}
 use Rattle.rules.specs.PullAnswer as rules
 use Rattle.plan.specs.declared.Checked.{Checked}
 use Rattle.plan.specs.Answer.{verdict-of}
@@ -12,8 +13,11 @@ use Rattle.search.specs.declared.Routed.{Routed}
 use Rattle.search.specs.Answer as search
 use Rattle.sheet.specs.declared.Judged.{Judged}
 use Rattle.sheet.specs.Answer as sheet
+use Rattle.yardfile.specs.declared.Read.{Read}
+use Rattle.yardfile.specs.declared.Read.the-variants as read
 use Rattle.finder.specs.declared.Answer.{Answer}
 use Rattle.finder.specs.declared.Pull.{Pull}
+use Rattle.finder.specs.declared.Yard.{Yard}
 
 -- the numbers in the struct's fields of the same names
 abbrev pub answerOf : Numbers → Answer
@@ -47,3 +51,20 @@ pull-answer (Refused n p) = record { refusal = n; place = p; count = 0 }
 -- the numbers of the struct with the lent list at exit, as the rules have them
 abbrev pub pulledOf : Pull → List ℕ → rules.Pulled
 pulledOf r list = record { refusal = r .refusal; place = r .place; count = r .count; list = list }
+
+-- what stands for the answer of the reader: V and the three counts, or a refusal's number and place
+abbrev pub yard-answer : Read → Yard
+yard-answer (read.Yard v e t q) = record { refusal = 0; place = 0; points = v; sections = e; turns = t; queries = q }
+yard-answer (read.Refused n p) = record { refusal = n; place = p; points = 0; sections = 0; turns = 0; queries = 0 }
+
+-- the numbers of the struct with the lent tables at exit, as the rules have them
+abbrev pub readingOf : Yard → Lent → Reading
+readingOf r lent = record {
+  refusal = r .refusal;
+  place = r .place;
+  points = r .points;
+  sections = r .sections;
+  turns = r .turns;
+  queries = r .queries;
+  tables = lent;
+}

@@ -3,6 +3,7 @@ use plan::Checked;
 use pullout::Pulled;
 use search::Routed;
 use sheet::Judged;
+use yardfile::Read;
 ghost use mathlib.Core.Path.{_≡_};
 ghost use Rattle.rules.specs.Plan.{plan-of};
 ghost use Rattle.rules.specs.PlanCheck.{plan-checks};
@@ -11,7 +12,8 @@ ghost use Rattle.rules.specs.Query.{query-of};
 ghost use Rattle.rules.specs.Search as rules;
 ghost use Rattle.rules.specs.Sheet.{sheet-of, SheetAnswer};
 ghost use Rattle.rules.specs.PullAnswer.{reversal-of, PullAnswer};
-ghost use Rattle.finder.specs.Numbers.{answerOf, check-answer, pulledOf, pull-answer, resultOf, route-answer, numbersOf, sheet-answer};
+ghost use Rattle.rules.specs.YardFile.{lent-of, read};
+ghost use Rattle.finder.specs.Numbers.{readingOf, yard-answer, answerOf, check-answer, pulledOf, pull-answer, resultOf, route-answer, numbersOf, sheet-answer};
 
 // The five numbers of an answer.
 #[repr(C)]
@@ -29,6 +31,17 @@ pub struct Pull {
     pub refusal: u32,
     pub place: u32,
     pub count: u32,
+}
+
+// The six numbers of a yard file.
+#[repr(C)]
+pub struct Yard {
+    pub refusal: u32,
+    pub place: u32,
+    pub points: u32,
+    pub sections: u32,
+    pub turns: u32,
+    pub queries: u32,
 }
 
 // The numbers of a check.
@@ -204,4 +217,42 @@ pub extern "C" fn finder_pull_out(
         ⌜ PullAnswer (reversal-of (plan-of points (now (sections .entry)) (now (turns .entry))) length arrival section) (now (list .entry)) (pulledOf r (now (list .exit))) ⌝ }
 {
     pulled(pullout::pull_out(points, sections, turns, length, arrival, section, list))
+}
+
+// The numbers of a yard file.
+fn taken_in(answer: Read) -> Yard
+    ensures { λ r. ⌜ r ≡ yard-answer answer ⌝ }
+{
+    match answer {
+        Read::Yard(v, e, t, q) => Yard {
+            refusal: 0,
+            place: 0,
+            points: v,
+            sections: e,
+            turns: t,
+            queries: q,
+        },
+        Read::Refused(number, offset) => Yard {
+            refusal: number,
+            place: offset,
+            points: 0,
+            sections: 0,
+            turns: 0,
+            queries: 0,
+        },
+    }
+}
+
+// Refusals 20 and 14; sections, turns and queries into the fronts of the three tables.
+#[no_mangle]
+pub extern "C" fn finder_read_yard(
+    file: &[u8],
+    sections: &mut [u32],
+    turns: &mut [u32],
+    queries: &mut [u32],
+) -> Yard
+    ensures { λ r.
+        ⌜ readingOf r (lent-of (now (sections .exit)) (now (turns .exit)) (now (queries .exit))) ≡ read (now (file .entry)) (lent-of (now (sections .entry)) (now (turns .entry)) (now (queries .entry))) ⌝ }
+{
+    taken_in(yardfile::read_yard(file, sections, turns, queries))
 }
