@@ -107,13 +107,14 @@ module _ (q : Query) (labels : List ℕ) {known walk : List ℕ} {steps : ℕ} (
         (λ z. omega arith) refl
 
     -- success
-    pub handed-out : (route : List ℕ) (reversals : ℕ) → steps ≤ length route → reversals ≡ walk-reversals q (take steps walk)
+    pub handed-out : (route : List ℕ) {total reversals : ℕ} → steps ≤ length route → total ≡ first-distance q + getD known (start-arrival q) 0
+        → reversals ≡ walk-reversals q (take steps walk)
         → Answer q route labels (record {
-          numbers = record { refusal = 0; place = 0; total = first-distance q + getD known (start-arrival q) 0; reversals = reversals; steps = steps };
+          numbers = record { refusal = 0; place = 0; total = total; reversals = reversals; steps = steps };
           route = take steps walk ++ drop steps route;
           labels = take (length labels) known ++ drop (length labels) labels;
         })
-    handed-out route reversals l e =
+    handed-out route l t e =
         found (take steps walk) (take (length labels) known ++ drop (length labels) labels) ok walk-first
         (walk-fits route (take steps walk) (omega (arith, long, few)) (omega (arith, long))) labelled
-        (rw (e, any-default known (start-arrival q) 0 no-distance start-there, start-label, long) refl)
+        (rw (t, e, any-default known (start-arrival q) 0 no-distance start-there, start-label, long) refl)

@@ -44,9 +44,9 @@ pub whole : {s : List ℕ} {h : Parts} → IsField s 1 0 → Parted s h → leng
 whole f g l = record { sound = at-end (passed f g) l; first = f; parted = g; ends = l }
 
 -- a file without a fault so far is short, so the byte at which the runs end is a number of the answer
-pub ends-early : {s : List ℕ} {h : Parts} → Parted s h → h .queries .end < 4294967296
+pub ends-early : {s : List ℕ} {h : Parts} → Parted s h → (h .turns .end ≤ h .queries .end) × (h .queries .end < 4294967296)
 ends-early {s} {h} g =
     let p = g .sections .ends ∙ after-at 2 (h .sections .count) 5 in
     let q = g .turns .ends ∙ after-at 3 (h .turns .count) (h .sections .end) in
     let r = g .queries .ends ∙ after-at 4 (h .queries .count) (h .turns .end) in
-    omega (arith, p, q, r, g .sections .few, g .turns .few, g .queries .few)
+    (omega (arith, r), omega (arith, p, q, r, g .sections .few, g .turns .few, g .queries .few))

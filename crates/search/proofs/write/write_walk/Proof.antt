@@ -1,5 +1,6 @@
 -- `write_walk` meets its contract: the walk fits into the route buffer, or refusal 14.
 -- Assumes nothing.
+use mathlib.Core.Path.{refl}
 use native.Mathlib.Omega.{arith}
 use lib.ListN.{length}
 use Rattle.steps.proofs.Reversing.{walk-linked}
@@ -69,9 +70,11 @@ returns-2 : tie.Need-returns-2
 returns-2 c =
     let s = c .before .before .before .before .before .before .before .before .before .before .before .before .before .before .before .before .before .before .before in
     let from = c .before .before .before .before .before .before .before .before .before .before .before .start-arrival .ensures in
-    rw (c .before .before .copy-front2 .ensures, c .before .before .before .before .before .before .copy-front .ensures, c .before .before .before .before .before .before .before .before .before .before .first-distance .ensures, from)
-    (handed-out (query-asked (s .args .asked) (s .args .sections .now) (s .args .turns .now)) (s .args .labels .now) (s .pre .0) (s .pre .2) (s .pre .3) (s .args .route .now) (c .before .before .before .before .before .before .before .before .count-reversals .result) (omega (arith, c .before .before .before .before .before .before .before .before .before .before .before .before .if1 .left))
-    (rw from at (c .before .before .before .before .before .before .before .before .count-reversals .ensures (s .args .asked .points) (s .args .asked .length) (s .args .asked .start) (s .args .asked .leave) (s .args .asked .finish) (s .args .asked .enter))))
+    let query = query-asked (s .args .asked) (s .args .sections .now) (s .args .turns .now) in
+    let counted = c .before .before .before .before .before .before .before .before .count-reversals .ensures (s .args .asked .points) (s .args .asked .length) (s .args .asked .start) (s .args .asked .leave) (s .args .asked .finish) (s .args .asked .enter) in
+    rw (c .before .before .copy-front2 .ensures, c .before .before .before .before .before .before .copy-front .ensures)
+    (handed-out query (s .args .labels .now) (s .pre .0) (s .pre .2) (s .pre .3) (s .args .route .now) (omega (arith, c .before .before .before .before .before .before .before .before .before .before .before .before .if1 .left))
+    (rw (c .before .before .before .before .before .before .before .before .before .before .first-distance .ensures, from) refl) (rw from at counted))
 
 pub write-walk-spec : {M : Type 1} → statement M
 write-walk-spec =

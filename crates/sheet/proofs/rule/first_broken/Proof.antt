@@ -18,7 +18,7 @@ loop-holds : tie.Need-loop-holds Inv-loop μ-loop
 loop-holds c = kept-none
 
 rules-kept-requires : tie.Need-rules-kept-requires Inv-loop μ-loop
-rules-kept-requires c κs = (c .before .before .before .before .before .before .pre, c .loop-test .taken)
+rules-kept-requires c κs = (c .before .before .before .before .before .before .pre, omega (arith, c .loop-test .taken))
 
 returns : tie.Need-returns Inv-loop μ-loop
 returns c = broken-here (c .before .before .before .loop .inv) (c .before .before .loop-test .taken) (c .before .rules-kept .ensures) (c .if1 .taken)
