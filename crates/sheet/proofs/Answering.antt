@@ -21,15 +21,17 @@ use Rattle.train.proofs.Refusing.{RefusedWith, plan-accepted}
 use Rattle.plan.specs.declared.Checked.{Checked}
 use Rattle.plan.specs.declared.Checked.the-variants.{Passed, Refused}
 use Rattle.pullout.specs.Tables.{Passes}
+use Rattle.sheet.specs.declared.Judged.the-variants as judged
 use Rattle.sheet.specs.Checking.{SheetPasses, SheetChecked}
+use Rattle.sheet.specs.Answer.{Judges}
 
 -- the tables of a query that is accepted are those of a plan that passes
 pub tables-pass : (q : Query) (n : ℕ) → asked.Accepted q n → Passes (q .plan .sections) (q .plan .turns)
 tables-pass q n ok = record { points = q .plan .points; passes = plan-accepted q n ok }
 
 -- refused by 1 to 11
-pub turned-away : {q : Query} {h : Sheet} {m p : ℕ} → RefusedWith q (length (h .labels)) m p → SheetAnswer q h (refusal (refused-at m p))
-turned-away {m = m} {p = p} r = refused (refused-at m p) (r .first) (r .number) refl
+pub turned-away : {q : Query} {h : Sheet} {m p : ℕ} → RefusedWith q (length (h .labels)) m p → Judges q h (judged.Refused m p)
+turned-away {m = m} {p = p} r = record { numbers = refused (refused-at m p) (r .first) (r .number) refl; numbered = r .number }
 
 -- an answer refuses or passes
 not-both : {r : Checked} {m p : ℕ} → r ≡ Refused m p → r ≡ Passed → ⊥
@@ -37,11 +39,20 @@ not-both e f = let y : _≡_ {A = ℕ} 0 1 = cc in omega arith
 
 module _ {q : Query} {h : Sheet} {r : Checked} where
   -- refused by 17, 18 or 19
-  pub judged-refused : {m p : ℕ} → asked.Accepted q (length (h .labels)) → SheetChecked q h r → r ≡ Refused m p → SheetAnswer q h (refusal (refused-at m p))
-  judged-refused ok (SheetChecked.bad-claim i n) e = bad-claim ok n cc
-  judged-refused ok (SheetChecked.bad-label a i c l n k) e = bad-label a ok c l n k cc
-  judged-refused ok (SheetChecked.bad-start i c k n) e = bad-start ok c k n cc
-  judged-refused ok (SheetChecked.good i s) e = absurd (not-both e i)
+  refused-numbers : {m p : ℕ} → asked.Accepted q (length (h .labels)) → SheetChecked q h r → r ≡ Refused m p → SheetAnswer q h (refusal (refused-at m p))
+  refused-numbers ok (SheetChecked.bad-claim i n) e = bad-claim ok n cc
+  refused-numbers ok (SheetChecked.bad-label a i c l n k) e = bad-label a ok c l n k cc
+  refused-numbers ok (SheetChecked.bad-start i c k n) e = bad-start ok c k n cc
+  refused-numbers ok (SheetChecked.good i s) e = absurd (not-both e i)
+
+  refused-numbered : {m p : ℕ} → SheetChecked q h r → r ≡ Refused m p → m ≢ 0
+  refused-numbered (SheetChecked.bad-claim i n) e z = let y : _≡_ {A = ℕ} 17 0 = cc in omega arith
+  refused-numbered (SheetChecked.bad-label a i c l n k) e z = let y : _≡_ {A = ℕ} 18 0 = cc in omega arith
+  refused-numbered (SheetChecked.bad-start i c k n) e z = let y : _≡_ {A = ℕ} 19 0 = cc in omega arith
+  refused-numbered (SheetChecked.good i s) e z = not-both e i
+
+  pub judged-refused : {m p : ℕ} → asked.Accepted q (length (h .labels)) → SheetChecked q h r → r ≡ Refused m p → Judges q h (judged.Refused m p)
+  judged-refused ok k e = record { numbers = refused-numbers ok k e; numbered = refused-numbered k e }
 
   -- refused by none
   pub judged-passed : SheetChecked q h r → r ≡ Passed → SheetPasses q h
@@ -51,8 +62,8 @@ module _ {q : Query} {h : Sheet} {r : Checked} where
   judged-passed (SheetChecked.good i s) e = s
 
 module _ (q : Query) {claim : ℕ} {list labels : List ℕ} (ok : asked.Accepted q (length labels)) (P : SheetPasses q (sheet-of claim list labels)) where
-  pub none-accepted : claim ≡ 0 → SheetAnswer q (sheet-of claim list labels) (refusal passed)
-  none-accepted c = accepted ok (P .claims) (P .rules) (P .start) (Accepted.no-route c refl)
+  pub none-accepted : claim ≡ 0 → Judges q (sheet-of claim list labels) (judged.Accepted 0 0 0)
+  none-accepted c = record { numbers = accepted ok (P .claims) (P .rules) (P .start) (Accepted.no-route c refl); numbered = tt }
 
   pub start-there : start-arrival q < length labels
   start-there = omega (arith, start-inside (sound q (length labels) ok), label-length q (length labels) ok)
@@ -92,5 +103,5 @@ module _ (q : Query) {claim : ℕ} {list labels : List ℕ} (ok : asked.Accepted
     total-fits = omega (arith, total-there, total-below (sound q (length labels) ok) list shortest)
 
     pub walk-accepted : {reversals : ℕ} → reversals ≡ walk-reversals q list
-        → SheetAnswer q (sheet-of claim list labels) (record { refusal = 0; place = 0; total = first-distance q + getD labels (start-arrival q) 0; reversals = reversals; steps = length list })
-    walk-accepted e = rw (e, total-there) answered
+        → Judges q (sheet-of claim list labels) (judged.Accepted (first-distance q + getD labels (start-arrival q) 0) reversals (length list))
+    walk-accepted e = record { numbers = rw (e, total-there) answered; numbered = tt }

@@ -14,11 +14,11 @@ ghost use Rattle.rules.specs.Plan.{plan-of};
 ghost use Rattle.rules.specs.Refusals.{verdict, passed};
 ghost use Rattle.rules.specs.PlanCheck.{plan-checks};
 ghost use Rattle.rules.specs.Query.{query-of};
-ghost use Rattle.rules.specs.Sheet.{sheet-of, SheetAnswer};
+ghost use Rattle.rules.specs.Sheet.{sheet-of};
 ghost use Rattle.train.specs.Asked.{query-asked, Accepted};
 ghost use Rattle.pullout.specs.Tables.{TurnTable, Tables};
 ghost use Rattle.sheet.specs.Checking.{SheetPasses, SheetChecked};
-ghost use Rattle.sheet.specs.Answer.{numbers-of};
+ghost use Rattle.sheet.specs.Answer.{Judges};
 use claim::check_claim;
 use plan::Checked;
 use plan::check_plan;
@@ -87,7 +87,7 @@ fn accept(
     labels: &[u32],
 ) -> Judged
     requires { ⌜ Accepted (query-asked asked (now sections) (now turns)) (length-of (now labels)) × TurnTable (now sections) (now turns) (now table) × SheetPasses (query-asked asked (now sections) (now turns)) (sheet-of claim (now list) (now labels)) ⌝ }
-    ensures { λ r. ⌜ SheetAnswer (query-asked asked (now (sections .entry)) (now (turns .entry))) (sheet-of claim (now (list .entry)) (now (labels .entry))) (numbers-of r) ⌝ }
+    ensures { λ r. ⌜ Judges (query-asked asked (now (sections .entry)) (now (turns .entry))) (sheet-of claim (now (list .entry)) (now (labels .entry))) r ⌝ }
 {
     if claim == 0 {
         return Judged::Accepted(0, 0, 0);
@@ -109,7 +109,7 @@ fn judge(
     labels: &[u32],
 ) -> Judged
     requires { ⌜ Accepted (query-asked asked (now sections) (now turns)) (length-of (now labels)) ⌝ }
-    ensures { λ r. ⌜ SheetAnswer (query-asked asked (now (sections .entry)) (now (turns .entry))) (sheet-of claim (now (list .entry)) (now (labels .entry))) (numbers-of r) ⌝ }
+    ensures { λ r. ⌜ Judges (query-asked asked (now (sections .entry)) (now (turns .entry))) (sheet-of claim (now (list .entry)) (now (labels .entry))) r ⌝ }
 {
     let slots = index(sections);
     let table = turn_table(sections, turns);
@@ -130,7 +130,7 @@ fn judge_plan(
     labels: &[u32],
 ) -> Judged
     requires { ⌜ verdict (plan-checks (plan-of (asked .points) (now sections) (now turns))) ≡ passed ⌝ }
-    ensures { λ r. ⌜ SheetAnswer (query-asked asked (now (sections .entry)) (now (turns .entry))) (sheet-of claim (now (list .entry)) (now (labels .entry))) (numbers-of r) ⌝ }
+    ensures { λ r. ⌜ Judges (query-asked asked (now (sections .entry)) (now (turns .entry))) (sheet-of claim (now (list .entry)) (now (labels .entry))) r ⌝ }
 {
     let checked = check_train(
         sections,
@@ -167,7 +167,7 @@ pub fn check_sheet(
     list: &[u32],
     labels: &[u32],
 ) -> Judged
-    ensures { λ r. ⌜ SheetAnswer (query-of (plan-of points (now (sections .entry)) (now (turns .entry))) length start leave finish enter) (sheet-of claim (now (list .entry)) (now (labels .entry))) (numbers-of r) ⌝ }
+    ensures { λ r. ⌜ Judges (query-of (plan-of points (now (sections .entry)) (now (turns .entry))) length start leave finish enter) (sheet-of claim (now (list .entry)) (now (labels .entry))) r ⌝ }
 {
     let asked = Asked {
         points,

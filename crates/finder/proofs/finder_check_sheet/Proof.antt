@@ -18,7 +18,7 @@ returns : tie.Need-returns
 returns c =
     let call = c .before .check-sheet in
     let a = c .before .before .before .before .before .before .args in
-    sheet-carried (query-of (plan-of (a .points) (a .sections .now) (a .turns .now)) (a .length) (a .start) (a .leave) (a .finish) (a .enter)) (sheet-of (a .claim) (a .list .now) (a .labels .now)) (call .result) (c .judged .ensures) (call .ensures)
+    sheet-carried (query-of (plan-of (a .points) (a .sections .now) (a .turns .now)) (a .length) (a .start) (a .leave) (a .finish) (a .enter)) (sheet-of (a .claim) (a .list .now) (a .labels .now)) (call .result) (c .judged .ensures) (call .ensures .numbers)
 
 pub finder-check-sheet-spec : {M : Type 1} → statement M
 finder-check-sheet-spec = tie.close (tie.spec check-sheet-requires judged-requires returns)
