@@ -6,7 +6,7 @@ use mathlib.Core.List.{List}
 use Prim.Native.Nat.{ℕ, _+_, _<_}
 use native.Mathlib.Omega.{arith}
 use lib.ListN.{length, getD}
-use Rattle.rules.specs.Refusals.{passed, refused-at}
+use Rattle.rules.specs.Refusals.{refused-at}
 use Rattle.rules.specs.Query.{Query, start-arrival, first-distance}
 use Rattle.rules.specs.Net.{no-distance, Walk, Shortest}
 use Rattle.rules.specs.Trip.{query-net, total, walk-reversals}
