@@ -1,2 +1,3 @@
 -- What the structs of the C ABI mean.
 pub mod Numbers
+pub mod Version

@@ -14,6 +14,7 @@ ghost use Rattle.rules.specs.Sheet.{sheet-of, SheetAnswer};
 ghost use Rattle.rules.specs.PullAnswer.{reversal-of, PullAnswer};
 ghost use Rattle.rules.specs.YardFile.{lent-of, read};
 ghost use Rattle.finder.specs.Numbers.{readingOf, yard-answer, answerOf, check-answer, pulledOf, pull-answer, resultOf, route-answer, numbersOf, sheet-answer};
+ghost use Rattle.finder.specs.Version.{version};
 
 // The five numbers of an answer.
 #[repr(C)]
@@ -255,4 +256,12 @@ pub extern "C" fn finder_read_yard(
         ⌜ readingOf r (lent-of (now (sections .exit)) (now (turns .exit)) (now (queries .exit))) ≡ read (now (file .entry)) (lent-of (now (sections .entry)) (now (turns .entry)) (now (queries .entry))) ⌝ }
 {
     taken_in(yardfile::read_yard(file, sections, turns, queries))
+}
+
+// The version of this library, as include/finder.h writes it.
+#[no_mangle]
+pub extern "C" fn finder_version() -> u32
+    ensures { λ r. ⌜ r ≡ version ⌝ }
+{
+    10000
 }
