@@ -76,9 +76,9 @@ pub fn turn_count(turns: &[u32]) -> u32
     count as u32
 }
 
-// There is a section of this number.
+// There is a section of this number. Its last number is tested, so that a compiler knows the others to be inside too.
 pub fn has_section(sections: &[u32], s: u32) -> bool
     ensures { λ r. ⌜ r ≡ ltb s (section-count (of-sections (now (sections .entry)))) ⌝ }
 {
-    wide(s) < sections.len() / 6
+    6 * wide(s) + 5 < sections.len()
 }
