@@ -1,59 +1,16 @@
--- What the tests of a glance come to, and how a guess is made of others: over a section, and over the sections of a point.
+-- How a guess is made of others: over a section, and over the sections of a point.
 -- Assumes nothing.
 use mathlib.Core.Path.{_≡_, refl}
 use mathlib.Core.Logic.{_⊎_, ⊎-elim}
-use mathlib.Core.Bool.{Bool, true, false, not}
 use mathlib.Core.List.{List, [], _∷_}
-use Prim.Native.Nat.{ℕ, _+_, _-_, _*_, _≤_, _<_}
+use Prim.Native.Nat.{ℕ, _+_, _-_, _*_}
 use native.Mathlib.Omega.{arith}
-use borrow.Author.Tests.{not-true, not-false}
 use lib.ListN.{getD}
-use Rattle.rules.specs.Plan.{plan-of, len, is-free, far, free-from}
-use Rattle.rules.specs.PullOut.{any-section}
-use Rattle.rules.proofs.Tests.{clash, says-true, says-false}
-use Rattle.rules.proofs.Ways.{may-use, mark, Way, free-whole, way-fits, way-onward}
-use Rattle.pullout.specs.declared.look.Look.the-variants.{Shut, On}
 use Rattle.pullout.specs.Tables.{Tables}
-use Rattle.pullout.specs.Looked.{Enters}
 use Rattle.pullout.specs.Tried.{Heads, Over}
-use Rattle.pullout.proofs.Reach.{at-far}
-use Rattle.pullout.proofs.Entering.{entry, entry-T, T-entry}
 use Rattle.pullout.proofs.Going.{in-slots}
-use Rattle.reversal.specs.Guessed.{Takes, Glanced, Guessed}
-
--- a glance at section e
-module _ (ss ts : List ℕ) (c s n h p e : ℕ) where
-  pub glanced-out : {r : Bool} → r ≡ entry ss ts c s h p e → not r ≡ true → Glanced ss ts c s n h p e Shut
-  glanced-out {r} i k qs w =
-      clash (entry ss ts c s h p e) (T-entry ss ts c s h p e (way-fits (w .way))) (says-false (entry ss ts c s h p e) (not-true r k) i)
-
-  -- it is too short to be the last
-  module _ {x : ℕ} (i : x ≡ free-from (plan-of 0 ss ts) e p) (l : x < n) where
-    less : free-from (plan-of 0 ss ts) e p < n
-    less = omega arith
-
-    pub glanced-occupied : {r : Bool} → r ≡ is-free (plan-of 0 ss ts) e → not r ≡ true → Glanced ss ts c s n h p e Shut
-    glanced-occupied {r} j k qs w =
-        clash (is-free (plan-of 0 ss ts) e) (way-onward less (w .way) .0) (says-false (is-free (plan-of 0 ss ts) e) (not-true r k) j)
-
-    -- it is free, q is its far point and m its length
-    module _ {f : Bool} {m : ℕ} (j : f ≡ is-free (plan-of 0 ss ts) e) (k : not f ≡ false) (o : m ≡ len (plan-of 0 ss ts) e) where
-      pub glanced-fits : m ≤ n
-      glanced-fits = omega (arith, less, free-whole (plan-of 0 ss ts) e p (says-true (is-free (plan-of 0 ss ts) e) (not-false f k) j))
-
-      pub glanced-on : {r : Bool} {q : ℕ} → r ≡ entry ss ts c s h p e → not r ≡ false → q ≡ far (plan-of 0 ss ts) e p
-          → Glanced ss ts c s n h p e (On q (n - m))
-      glanced-on {r} {q} g u a =
-          (record { inside = enters .inside; touch = rw a (at-far (plan-of 0 ss ts) e p) }, beyond)
-        where
-          enters : Enters ss ts c s h p e
-          enters = entry-T ss ts c s h p e (says-true (entry ss ts c s h p e) (not-false r u) g)
-
-          beyond : (qs : List ℕ) → Takes ss ts c s n h p (e ∷ qs) → Takes ss ts c s (n - m) e q qs
-          beyond qs w =
-              let v : Way (plan-of 0 ss ts) (may-use any-section c s) (n - m) e q (mark (far (plan-of 0 ss ts) e p) (w .marks)) qs =
-              rw (a, o) (way-onward less (w .way) .2) in
-              record { marks = mark (far (plan-of 0 ss ts) e p) (w .marks); way = v }
+use Rattle.reversal.specs.Glanced.{Takes}
+use Rattle.reversal.specs.Guessed.{Guessed}
 
 -- a guess that ends says nothing
 pub guess-ended : {P : List ℕ → Type 0} {budget : ℕ} → Guessed P budget 0

@@ -9,15 +9,12 @@ use native.Mathlib.Omega.{arith}
 use lib.Dec.{eqb}
 use Rattle.rules.specs.Plan.{Plan, plan-of}
 use Rattle.rules.specs.PullOut.{PullOut, NoPullOut, any-section}
-use Rattle.rules.proofs.Ways.{may-use, only, Way, fewer-marks}
+use Rattle.rules.proofs.Ways.{may-use, only, Way}
 use Rattle.rules.proofs.AnyPoints.{way-points}
 use Rattle.rules.proofs.PullWays.{way-pull, no-pull}
-use Rattle.pullout.specs.declared.marks.Try.{Try}
-use Rattle.pullout.specs.Marks.{Begun}
-use Rattle.pullout.specs.Looked.{Goes}
 use Rattle.pullout.specs.Searched.{Searched, none-there, first-there}
 use Rattle.reversal.specs.Reverses.{Reverses, can, can-not}
-use Rattle.reversal.specs.Guessed.{Takes}
+use Rattle.reversal.specs.Glanced.{Takes}
 
 -- what the caller reads
 pub reverses-true : {y : Plan} {need c p s : ℕ} {r : Bool} → Reverses y need c p s r → r ≡ true → (qs : List ℕ) × PullOut y any-section need c p s qs
@@ -29,11 +26,10 @@ reverses-false (can qs w) e = absurd (true≢false e)
 reverses-false (can-not n) e = n
 
 module _ {ss ts : List ℕ} {n c p s : ℕ} where
-  -- the first try goes over the list to its end
-  pub way-reverses : {t : Try} → Begun p n t → 0 < n → (qs : List ℕ) → Goes ss ts c s t c p qs → (v : ℕ) → Reverses (plan-of v ss ts) n c p s true
-  way-reverses {t} begun z qs k v =
-      let u : Way (plan-of 0 ss ts) (may-use any-section c s) (t .left) c p (only p) qs = fewer-marks (λ k o. rw (begun .marks k) o) k in
-      can qs (way-pull z (way-points 0 v (rw (begun .left) at u)))
+  -- a list that leads on from the start is a pull-out
+  pub way-reverses : 0 < n → (qs : List ℕ) → Way (plan-of 0 ss ts) (may-use any-section c s) n c p (only p) qs
+      → (v : ℕ) → Reverses (plan-of v ss ts) n c p s true
+  way-reverses z qs w v = can qs (way-pull z (way-points 0 v w))
 
   -- no list takes the length, whatever the marks
   pub none-reverses : ((qs : List ℕ) → Takes ss ts c s n c p qs → ⊥) → (v : ℕ) → Reverses (plan-of v ss ts) n c p s false

@@ -1,46 +1,12 @@
 // A guess at a pull-out: depth first and without marks, so that it costs little, and may pass a point twice. Guessing at a point guesses
 // at its sections, guessing at a section guesses at its far point; each section takes one off the budget.
-ghost use Rattle.pullout.specs.Tables.{Passes, TurnTable, Tables, Arrived};
+ghost use Rattle.pullout.specs.Tables.{Tables, Arrived};
 ghost use Rattle.pullout.specs.Tried.{Over};
-ghost use Rattle.reversal.specs.Guessed.{Takes, Glanced, Guessed};
-use plan::read::LENGTH;
-use plan::read::section_number;
-use plan::section::far_end;
-use plan::section::free_from;
-use plan::section::is_free;
+ghost use Rattle.reversal.specs.Glanced.{Takes};
+ghost use Rattle.reversal.specs.Guessed.{Guessed};
+use crate::glance::glance;
 use plan::slots::slot_at;
 use pullout::look::Look;
-use pullout::look::may_enter;
-
-// A glance at section e at the point p, come there over section h with the length n left: what it is to a guess, and beyond it the
-// far point and what is then left.
-fn glance(
-    sections: &[u32],
-    turns: &[u32],
-    table: &[u32; 1536],
-    c: u32,
-    s: u32,
-    h: u32,
-    p: u32,
-    e: u32,
-    n: u32,
-) -> Look
-    requires { ⌜ Passes (now sections) (now turns) × TurnTable (now sections) (now turns) (now table) × Arrived (now sections) h p ⌝ }
-    ensures { λ r. ⌜ Glanced (now (sections .entry)) (now (turns .entry)) c s n h p e r ⌝ }
-{
-    if !may_enter(sections, turns, table, c, s, h, p, e) {
-        return Look::Shut;
-    }
-    if n <= free_from(sections, e, p) {
-        return Look::Last;
-    }
-    if !is_free(sections, e) {
-        return Look::Shut;
-    }
-    let q = far_end(sections, e, p);
-    let length = section_number(sections, e, LENGTH);
-    Look::On(q, n - length)
-}
 
 // A guess from the point p on, come there over section h with the length n left; k is the budget. Its sections stand in the list
 // from place d on. The answer is 0 where it ends: with a guess, too deep for the list, or with the budget spent. Else there is

@@ -1,16 +1,18 @@
-// Whether a train can reverse: whether there is any pull-out for one turn. A guess is made and checked, and where it fails the
-// search for the first pull-out decides.
-mod follow;
+// Whether a train can reverse: whether there is any pull-out for one turn. Mostly it runs straight on; else a guess is made
+// and checked, and where it fails the search for the first pull-out decides.
+mod glance;
 mod guess;
+mod run;
 
 ghost use Prim.Native.Nat.{ℕ, _<_};
 ghost use Rattle.rules.specs.Plan.{plan-of};
 ghost use Rattle.pullout.specs.Tables.{Tables, Arrived};
 ghost use Rattle.reversal.specs.Reverses.{Reverses};
-use follow::follow;
 use guess::guess_point;
 use pullout::cut::cut_for;
 use pullout::search::first_pull_out;
+use run::follow;
+use run::runs_out;
 
 // How many sections a guess may try.
 const BUDGET: u32 = 256;
@@ -60,6 +62,9 @@ pub fn can_reverse(
     requires { ⌜ Tables (now sections) (now turns) (now slots) (now table) × Arrived (now sections) c p × (0 < length) ⌝ }
     ensures { λ r. ⌜ ((v : ℕ) → Reverses (plan-of v (now (sections .entry)) (now (turns .entry))) length c p s r) ⌝ }
 {
+    if runs_out(sections, turns, slots, table, length, c, p, s) {
+        return true;
+    }
     let mut list = [0; 64];
     let left = guess_point(
         sections,

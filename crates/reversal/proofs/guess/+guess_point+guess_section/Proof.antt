@@ -3,6 +3,7 @@
 -- Assumes nothing.
 use native.Mathlib.Omega.{arith}
 use Rattle.pullout.proofs.Entering.{arrived-low}
+use Rattle.reversal.proofs.Glancing.{over-arrived, over-takes}
 use Rattle.reversal.proofs.Guessing.{guess-ended, guess-shut, guess-on, guess-slots}
 use Prim.Native.Nat.{ℕ, _+_, _<_}
 use borrow.Fn.Kinds.{In}
@@ -14,7 +15,7 @@ use Rattle.reversal.proofs.guess.guess_section.Reads as guess-section
 use Rattle.reversal.proofs.guess.guess_section.Kinds as guess-section-kinds
 use Rattle.reversal.proofs.guess.+guess_point+guess_section.Lts-guess_section as guess-section-lts
 use Rattle.plan.proofs.slots.slot_at.Reads as slot-at-reads
-use Rattle.reversal.proofs.guess.glance.Reads as glance-reads
+use Rattle.reversal.proofs.glance.glance.Reads as glance-reads
 use Rattle.reversal.proofs.guess.+guess_point+guess_section.{statement}
 use Rattle.reversal.proofs.guess.+guess_point+guess_section.Tie.{close}
 
@@ -123,7 +124,7 @@ guess-section-guess-point-requires : (t : ℕ) → guess-section-lts.Need-guess-
 guess-section-guess-point-requires t c κs =
     let start = c .before .before .before .before .before .before .before .before .before in
     let on = rw (c .before .before .seen .given .1) at (c .before .before .before .before .glance .ensures) in
-    (omega (arith, start .pre .0), (start .pre .1 .0, on .0))
+    (omega (arith, start .pre .0), (start .pre .1 .0, over-arrived on))
 
 guess-section-returns-3 : (t : ℕ) → guess-section-lts.Need-returns-3 (section-calls t) (guess-section-at t) guess-section.Post
 guess-section-returns-3 t c = guess-shut (rw (c .enum-told .given .1) at (c .before .before .glance .ensures))
@@ -134,7 +135,7 @@ guess-section-returns-4 t c = guess-ended
 guess-section-returns-5 : (t : ℕ) → guess-section-lts.Need-returns-5 (section-calls t) (guess-section-at t) guess-section.Post
 guess-section-returns-5 t c =
     let on = rw (c .before .before .before .seen .given .1) at (c .before .before .before .before .before .glance .ensures) in
-    guess-on (on .1) (c .guess-point .ensures)
+    guess-on (over-takes on) (c .guess-point .ensures)
 
 pub +guess-point+guess-section-spec : {M : Type 1} → statement M
 +guess-point+guess-section-spec = close μ-guess-point μ-guess-section (λ t. guess-point-lts.spec (point-calls t)

@@ -1,9 +1,9 @@
--- `guess::glance` meets its contract: the tests of a way's first section, in their order, and none of marks.
+-- `glance::glance` meets its contract: the tests of a way's first section, in their order, and none of marks.
 -- Assumes nothing.
-use Rattle.reversal.proofs.Guessing.{glanced-out, glanced-occupied, glanced-fits, glanced-on}
+use Rattle.reversal.proofs.Glancing.{glanced-out, glanced-last, glanced-occupied, glanced-fits, glanced-on}
 use borrow.Author.Needs.{needs}
-use Rattle.reversal.proofs.guess.glance.Statement.{statement}
-use Rattle.reversal.proofs.guess.glance.Tie as tie
+use Rattle.reversal.proofs.glance.glance.Statement.{statement}
+use Rattle.reversal.proofs.glance.glance.Tie as tie
 
 may-enter-requires : tie.Need-may-enter-requires
 may-enter-requires c κs = search needs
@@ -17,7 +17,10 @@ free-from-requires : tie.Need-free-from-requires
 free-from-requires c κs = search needs
 
 returns-2 : tie.Need-returns-2
-returns-2 c = search needs
+returns-2 c =
+    let a = c .before .before .before .before .before .before .args in
+    glanced-last (a .sections .now) (a .turns .now) (a .c) (a .s) (a .n) (a .h) (a .p) (a .e) (c .before .before .before .may-enter .ensures) (c .before .before .if1 .left)
+    (c .before .free-from .ensures) (c .if2 .taken)
 
 is-free-requires : tie.Need-is-free-requires
 is-free-requires c κs = search needs
