@@ -4,9 +4,10 @@ use mathlib.Core.Path.{_≡_, sym}
 use mathlib.Core.Bool.{Bool, true, false, not}
 use Prim.Native.Nat.{ℕ, _+_, _≤_, _<_}
 use native.Mathlib.Omega.{arith}
-use lib.Dec.{T}
+use borrow.Author.Tests.{not-true, not-false}
+use lib.Dec.{T, ltb, ltb→lt}
 use Rattle.rules.specs.Ranges.{first-of, some-of}
-use Rattle.rules.proofs.Tests.{clash, gives-true, gives-false, says-true, says-false}
+use Rattle.rules.proofs.Tests.{tests, clash, gives-true, gives-false, says-true, says-false}
 use Rattle.rules.proofs.Ranges.{some-T, T-some, Least, hit, past, least, first-is, first-past, one-more}
 
 -- the test fails at each number below i
@@ -44,6 +45,14 @@ module _ {f : ℕ → Bool} {m n i : ℕ} (s : Sought f m n i) (g : n ≤ i) whe
 
   pub none-found : false ≡ some-of f 0 m
   none-found = gives-false (λ t. let w = some-T f 0 m t in clash (f (w .0)) (w .2) (s .clear .below (w .0) (omega (arith, w .1, at-end))))
+
+-- r is the test whether i is below n
+module _ {i n : ℕ} {r : Bool} (e : r ≡ ltb i n) where
+  pub below-end : not r ≡ false → i < n
+  below-end t = ltb→lt i n (says-true (ltb i n) (not-false r t) e)
+
+  pub past-end : not r ≡ true → n ≤ i
+  past-end t = let h = simp tests at (says-false (ltb i n) (not-true r t) e) in omega arith
 
 -- where the first number is past the end, the test fails at each; and tests that agree have the same first number
 pub all-clear : (f : ℕ → Bool) (m : ℕ) {k n : ℕ} → k ≡ first-of f 0 m → n ≡ m → n ≤ k → Clear f m

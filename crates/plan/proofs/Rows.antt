@@ -1,16 +1,16 @@
 -- The rows of the list of refusals, each looked through to its first place: it gives the verdict, or leaves it to the rows
 -- below.
 -- Assumes nothing.
-use mathlib.Core.Path.{_≡_, sym, _∙_}
+use mathlib.Core.Path.{_≡_, sym, ap, _∙_}
 use mathlib.Core.Bool.{Bool, true, false, not}
 use mathlib.Core.List.{List, _∷_}
-use Prim.Native.Nat.{ℕ, _≤_, _<_}
+use Prim.Native.Nat.{ℕ, suc, _≤_, _<_}
 use native.Mathlib.Omega.{arith}
 use borrow.Author.Tests.{not-true, not-false}
 use lib.ListN.{drop}
 use Rattle.rules.specs.Ranges.{first-of}
 use Rattle.rules.specs.Plan.{Plan, section-count, turn-count}
-use Rattle.rules.specs.Refusals.{Verdict, Check, each, refused-at, verdict}
+use Rattle.rules.specs.Refusals.{Verdict, Check, each, refused-at, passed, verdict}
 use Rattle.rules.specs.PlanCheck.{tables-good, section-bad, doubled, degree-bad, turn-bad, second-turn, plan-checks}
 use Rattle.rules.proofs.Tests.{not-not-iff, says-true, says-false}
 use Rattle.rules.proofs.Verdicts.{refuses, goes-on, refuses-once, passes-once}
@@ -22,6 +22,10 @@ module _ (c : Check) (cs : List Check) {k n : ℕ} (e : k ≡ first-of (c .bad) 
 
   row-passes : n ≤ k → {v : Verdict} → v ≡ verdict cs → v ≡ verdict (c ∷ cs)
   row-passes l r = r ∙ sym (goes-on c cs k e (omega arith))
+
+-- a refusal's number is not 0
+pub not-refused : {n p : ℕ} → refused-at (suc n) p ≡ passed → ⊥
+not-refused e = let i = ap (λ (v : Verdict). v .number) e in omega arith
 
 module _ (y : Plan) where
   -- the verdict of the rows from number i + 1 on

@@ -10,7 +10,7 @@ use lib.Dec.{T}
 use lib.ListN.{length, getD, set, length-set, replicate, length-replicate, getD-replicate}
 use lib.Seq.{getD-set-same, getD-set-other}
 use Rattle.rules.specs.Plan.{of-sections, section-count, end-A, end-B, touches}
-use Rattle.plan.specs.Ends.{Joined, AtMostThree, Slots, no-section, degree-before, counted}
+use Rattle.plan.specs.Ends.{Joined, AtMostThree, Slots, no-section, no-slots, degree-before, counted}
 use Rattle.plan.proofs.Counting.{count-mono, count-passes, count-reaches}
 use Rattle.plan.proofs.Touching.{touch-A, touch-B, touch-cases, touch-below}
 use Rattle.plan.proofs.Counts.{Counts, counts-none, counts-more, first-so-far, second-so-far}
@@ -28,7 +28,7 @@ pub record Held (ss slots f : List ℕ) (n k : ℕ) : Type 0 where
   pub stands : (t p : ℕ) → t < k → T (touches (of-sections ss) t p) → getD slots (slot ss p t) 0 ≡ t
   pub beyond : (p j : ℕ) → p < 768 → degree-before ss p k ≤ j → j < 3 → getD slots (3 * p + j) 0 ≡ no-section
 
-pub held-none : {ss : List ℕ} {n : ℕ} → Joined ss → AtMostThree ss → n ≡ section-count (of-sections ss) → Held ss (replicate 2304 no-section) (replicate 768 0) n 0
+pub held-none : {ss : List ℕ} {n : ℕ} → Joined ss → AtMostThree ss → n ≡ section-count (of-sections ss) → Held ss no-slots (replicate 768 0) n 0
 held-none j three e =
     record {
       three = three;

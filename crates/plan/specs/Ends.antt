@@ -6,7 +6,7 @@ use mathlib.Core.Bool.{Bool, not}
 use mathlib.Core.List.{List}
 use Prim.Native.Nat.{ℕ, _+_, _*_, _≤_, _<_}
 use lib.Dec.{T}
-use lib.ListN.{getD, set}
+use lib.ListN.{getD, set, replicate}
 use Rattle.rules.specs.Ranges.{between, count-of}
 use Rattle.rules.specs.Plan.{of-sections, section-count, end-A, end-B, touches}
 use Rattle.rules.specs.PlanCheck.{degree}
@@ -45,6 +45,10 @@ degree-bad-by d p = not (between 1 (getD d p 0) 3)
 -- no section has this number
 abbrev pub no-section : ℕ
 no-section = 4294967295
+
+-- slots in which no section stands
+abbrev pub no-slots : List ℕ
+no-slots = replicate 2304 no-section
 
 -- The table has three slots a point. At each of its ends a section stands in the slot whose number is how many earlier
 -- sections have that end. So the slots below a point's degree hold its sections in ascending order; those beyond hold none.

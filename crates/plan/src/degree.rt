@@ -37,18 +37,27 @@ pub fn degrees(sections: &[u32]) -> [u32; 768]
     table
 }
 
-// No point has over three sections.
+// 1 for a degree over three, else 0.
+fn over_three(degree: u32) -> u32
+    ensures { λ r. ⌜ (r ≡ 0 ↔ (degree ≤ 3)) × (r ≤ 1) ⌝ }
+{
+    if 3 < degree {
+        return 1;
+    }
+    0
+}
+
+// No point has over three sections. It counts instead of stopping at the first, so that many points are looked at at once.
 pub(crate) fn at_most_three(degrees: &[u32; 768]) -> bool
     ensures { λ r. ⌜ (r ≡ true) ↔ ((p : ℕ) → p < 768 → getD (now (degrees .entry)) p 0 ≤ 3) ⌝ }
 {
+    let mut over = 0;
     let mut p = 0;
     while p < 768 {
-        if 3 < degrees[p] {
-            return false;
-        }
+        over += over_three(degrees[p]);
         p += 1;
     }
-    true
+    over == 0
 }
 
 // Point p has no section, or over three.

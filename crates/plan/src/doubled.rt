@@ -4,13 +4,13 @@ ghost use Prim.Native.Nat.{_<_};
 ghost use Rattle.rules.specs.Ranges.{first-of};
 ghost use Rattle.rules.specs.Plan.{of-sections, section-count};
 ghost use Rattle.rules.specs.PlanCheck.{doubled};
-ghost use Rattle.plan.specs.Ends.{Joined, Degrees, Indexed};
+ghost use Rattle.plan.specs.Ends.{Joined, AtMostThree, Degrees, Slots, no-slots, Indexed};
 use crate::degree::at_most_three;
 use crate::read::END_A;
 use crate::read::section_count;
 use crate::read::section_number;
 use crate::section::same_ends;
-use crate::slots::index;
+use crate::slots::index_into;
 use crate::slots::slot_at;
 
 // Section s against each earlier one.
@@ -79,14 +79,15 @@ fn first_doubled_nearby(sections: &[u32], slots: &[u32; 2304]) -> u32
     s
 }
 
-// The same, in time linear in the number of sections where no point has over three. Any other plan is refused anyway.
-pub fn first_doubled(sections: &[u32], degrees: &[u32; 768]) -> u32
-    requires { ⌜ Joined (now sections) × Degrees (now sections) (now degrees) ⌝ }
-    ensures { λ r. ⌜ r ≡ first-of (doubled (of-sections (now (sections .entry)))) 0 (section-count (of-sections (now (sections .entry)))) ⌝ }
+// The same, in time linear in the number of sections where no point has over three; then the slots are filled too. Any other plan is
+// refused anyway.
+pub(crate) fn first_doubled(sections: &[u32], degrees: &[u32; 768], slots: &mut [u32; 2304]) -> u32
+    requires { ⌜ Joined (now sections) × Degrees (now sections) (now degrees) × (now slots ≡ no-slots) ⌝ }
+    ensures { λ r. ⌜ (r ≡ first-of (doubled (of-sections (now (sections .entry)))) 0 (section-count (of-sections (now (sections .entry))))) × (AtMostThree (now (sections .entry)) → Slots (now (sections .entry)) (now (slots .exit))) ⌝ }
 {
     if at_most_three(degrees) {
-        let slots = index(sections);
-        return first_doubled_nearby(sections, &slots);
+        index_into(sections, slots);
+        return first_doubled_nearby(sections, slots);
     }
     first_doubled_anywhere(sections)
 }

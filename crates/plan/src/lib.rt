@@ -13,9 +13,9 @@ ghost use mathlib.Core.Path.{_≡_};
 ghost use Prim.Native.Nat.{_≤_};
 ghost use lib.ListN.{drop};
 ghost use Rattle.rules.specs.Plan.{plan-of, turn-count};
-ghost use Rattle.rules.specs.Refusals.{verdict};
+ghost use Rattle.rules.specs.Refusals.{verdict, passed};
 ghost use Rattle.rules.specs.PlanCheck.{plan-checks};
-ghost use Rattle.plan.specs.Ends.{Joined};
+ghost use Rattle.plan.specs.Ends.{Joined, AtMostThree, Slots, no-slots};
 ghost use Rattle.plan.specs.Answer.{checked-of};
 use degree::degrees;
 use degree::first_bad_degree;
@@ -51,12 +51,12 @@ fn check_turns(sections: &[u32], turns: &[u32]) -> Checked
 }
 
 // Refusals 3 and 4, and then those of the turns.
-fn check_ends(points: u32, sections: &[u32], turns: &[u32]) -> Checked
-    requires { ⌜ (points ≤ 768) × Joined (now sections) × (turn-count (plan-of 0 (now sections) (now turns)) ≤ 768) ⌝ }
-    ensures { λ r. ⌜ r ≡ checked-of (verdict (drop 2 (plan-checks (plan-of points (now (sections .entry)) (now (turns .entry)))))) ⌝ }
+fn check_ends(points: u32, sections: &[u32], turns: &[u32], slots: &mut [u32; 2304]) -> Checked
+    requires { ⌜ (points ≤ 768) × Joined (now sections) × (turn-count (plan-of 0 (now sections) (now turns)) ≤ 768) × (now slots ≡ no-slots) ⌝ }
+    ensures { λ r. ⌜ (r ≡ checked-of (verdict (drop 2 (plan-checks (plan-of points (now (sections .entry)) (now (turns .entry))))))) × (AtMostThree (now (sections .entry)) → Slots (now (sections .entry)) (now (slots .exit))) ⌝ }
 {
     let counts = degrees(sections);
-    let twin = first_doubled(sections, &counts);
+    let twin = first_doubled(sections, &counts, slots);
     if twin < section_count(sections) {
         return Checked::Refused(3, twin);
     }
@@ -67,9 +67,15 @@ fn check_ends(points: u32, sections: &[u32], turns: &[u32]) -> Checked
     check_turns(sections, turns)
 }
 
-// The plan check: any numbers, any lengths of the two tables.
-pub fn check_plan(points: u32, sections: &[u32], turns: &[u32]) -> Checked
-    ensures { λ r. ⌜ r ≡ checked-of (verdict (plan-checks (plan-of points (now (sections .entry)) (now (turns .entry))))) ⌝ }
+// The plan check, which fills the slots of a plan that passes.
+pub fn check_and_index(
+    points: u32,
+    sections: &[u32],
+    turns: &[u32],
+    slots: &mut [u32; 2304],
+) -> Checked
+    requires { ⌜ now slots ≡ no-slots ⌝ }
+    ensures { λ r. ⌜ (r ≡ checked-of (verdict (plan-checks (plan-of points (now (sections .entry)) (now (turns .entry)))))) × (verdict (plan-checks (plan-of points (now (sections .entry)) (now (turns .entry)))) ≡ passed → Slots (now (sections .entry)) (now (slots .exit))) ⌝ }
 {
     if !tables_good(points, sections, turns) {
         return Checked::Refused(1, 0);
@@ -78,5 +84,13 @@ pub fn check_plan(points: u32, sections: &[u32], turns: &[u32]) -> Checked
     if bad < section_count(sections) {
         return Checked::Refused(2, bad);
     }
-    check_ends(points, sections, turns)
+    check_ends(points, sections, turns, slots)
+}
+
+// The plan check: any numbers, any lengths of the two tables.
+pub fn check_plan(points: u32, sections: &[u32], turns: &[u32]) -> Checked
+    ensures { λ r. ⌜ r ≡ checked-of (verdict (plan-checks (plan-of points (now (sections .entry)) (now (turns .entry))))) ⌝ }
+{
+    let mut slots = [4294967295; 2304];
+    check_and_index(points, sections, turns, &mut slots)
 }

@@ -11,7 +11,7 @@ use crate::read::FREE_A;
 use crate::read::FREE_B;
 use crate::read::KIND;
 use crate::read::LENGTH;
-use crate::read::section_count;
+use crate::read::has_section;
 use crate::read::section_number;
 use crate::read::wide;
 use crate::section::is_free;
@@ -78,13 +78,14 @@ pub fn first_bad_section(points: u32, sections: &[u32]) -> u32
     requires { ⌜ section-count (of-sections (now sections)) < 4294967296 ⌝ }
     ensures { λ r. ⌜ r ≡ first-of (section-bad (plan-of points (now (sections .entry)) [])) 0 (section-count (of-sections (now (sections .entry)))) ⌝ }
 {
-    let count = section_count(sections);
     let mut s = 0;
-    while s < count {
+    loop {
+        if !has_section(sections, s) {
+            return s;
+        }
         if section_bad(points, sections, s) {
             return s;
         }
         s += 1;
     }
-    s
 }

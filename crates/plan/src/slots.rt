@@ -2,7 +2,7 @@
 ghost use mathlib.Core.Path.{_≡_};
 ghost use Prim.Native.Nat.{_+_, _*_, _<_};
 ghost use lib.ListN.{getD, set};
-ghost use Rattle.plan.specs.Ends.{Joined, AtMostThree, Slots, counted};
+ghost use Rattle.plan.specs.Ends.{Joined, AtMostThree, Slots, no-slots, counted};
 use crate::degree::count_up;
 use crate::read::END_A;
 use crate::read::END_B;
@@ -21,22 +21,30 @@ fn place(slots: &mut [u32; 2304], filled: &mut [u32; 768], p: u32, s: u32)
     count_up(filled, p);
 }
 
-// The sections at each point, where no point has over three.
-pub fn index(sections: &[u32]) -> [u32; 2304]
-    requires { ⌜ Joined (now sections) × AtMostThree (now sections) ⌝ }
-    ensures { λ r. ⌜ Slots (now (sections .entry)) r ⌝ }
+// Puts the sections at each point into slots that hold none, where no point has over three.
+pub(crate) fn index_into(sections: &[u32], slots: &mut [u32; 2304])
+    requires { ⌜ Joined (now sections) × AtMostThree (now sections) × (now slots ≡ no-slots) ⌝ }
+    ensures { λ _. ⌜ Slots (now (sections .entry)) (now (slots .exit)) ⌝ }
 {
     let count = section_count(sections);
-    let mut slots = [4294967295; 2304];
     let mut filled = [0; 768];
     let mut s = 0;
     while s < count {
         let a = section_number(sections, s, END_A);
         let b = section_number(sections, s, END_B);
-        place(&mut slots, &mut filled, a, s);
-        place(&mut slots, &mut filled, b, s);
+        place(slots, &mut filled, a, s);
+        place(slots, &mut filled, b, s);
         s += 1;
     }
+}
+
+// The sections at each point, where no point has over three.
+pub fn index(sections: &[u32]) -> [u32; 2304]
+    requires { ⌜ Joined (now sections) × AtMostThree (now sections) ⌝ }
+    ensures { λ r. ⌜ Slots (now (sections .entry)) r ⌝ }
+{
+    let mut slots = [4294967295; 2304];
+    index_into(sections, &mut slots);
     slots
 }
 

@@ -17,14 +17,14 @@ abbrev plan : tie.After-degrees → Plan
 plan c = plan-of (c .before .before .before .args .points) (c .before .before .before .args .sections .now) (c .before .before .before .args .turns .now)
 
 -- no section is doubled
-not-doubled : (c : tie.Else1) {v : Verdict} → v ≡ verdict-past (plan (c .before .before .before .before)) 3 → v ≡ verdict-past (plan (c .before .before .before .before)) 2
-not-doubled c = past-3 (plan (c .before .before .before .before)) (c .before .before .first-doubled .ensures) (c .before .section-count .ensures) (c .if1 .left)
+not-doubled : (c : tie.Else1) {v : Verdict} → v ≡ verdict-past (plan (c .before .before .before .before .before)) 3 → v ≡ verdict-past (plan (c .before .before .before .before .before)) 2
+not-doubled c = past-3 (plan (c .before .before .before .before .before)) (c .before .before .first-doubled .ensures .0) (c .before .section-count .ensures) (c .if1 .left)
 
 -- the first point by its degree in the table is the first by its degree
-first-point : (c : tie.After-first-bad-degree) → c .first-bad-degree .result ≡ first-of (degree-bad (plan (c .before .before .before .before .before .before))) 0 (plan (c .before .before .before .before .before .before) .points)
+first-point : (c : tie.After-first-bad-degree) → c .first-bad-degree .result ≡ first-of (degree-bad (plan (c .before .before .before .before .before .before .before))) 0 (plan (c .before .before .before .before .before .before .before) .points)
 first-point c =
-    let y = plan (c .before .before .before .before .before .before) in
-    c .first-bad-degree .ensures ∙ by-degrees (y .points) (y .turns) (c .before .before .before .before .before .before .degrees .ensures) (c .before .before .before .before .before .before .before .before .before .pre .0)
+    let y = plan (c .before .before .before .before .before .before .before) in
+    c .first-bad-degree .ensures ∙ by-degrees (y .points) (y .turns) (c .before .before .before .before .before .before .before .degrees .ensures) (c .before .before .before .before .before .before .before .before .before .before .pre .0)
 
 degrees-requires : tie.Need-degrees-requires
 degrees-requires c κs = search needs
@@ -36,22 +36,29 @@ section-count-requires : tie.Need-section-count-requires
 section-count-requires c κs = search needs
 
 returns : tie.Need-returns
-returns c = ap checked-of (refused-3 (plan (c .before .before .before .before)) (c .before .before .first-doubled .ensures) (c .before .section-count .ensures) (c .if1 .taken))
+returns c = (
+  ap checked-of (refused-3 (plan (c .before .before .before .before .before)) (c .before .before .first-doubled .ensures .0) (c .before .section-count .ensures) (c .if1 .taken)),
+  c .before .before .first-doubled .ensures .1,
+)
 
 first-bad-degree-requires : tie.Need-first-bad-degree-requires
 first-bad-degree-requires c κs = search needs
 
 returns-2 : tie.Need-returns-2
-returns-2 c =
-    ap checked-of (not-doubled (c .before .before .before) (refused-4 (plan (c .before .before .before .before .before .before .before)) (first-point (c .before)) refl (c .if2 .taken)))
+returns-2 c = (
+  ap checked-of (not-doubled (c .before .before .before) (refused-4 (plan (c .before .before .before .before .before .before .before .before)) (first-point (c .before)) refl (c .if2 .taken))),
+  c .before .before .before .before .before .first-doubled .ensures .1,
+)
 
 check-turns-requires : tie.Need-check-turns-requires
 check-turns-requires c κs = search needs
 
 returns-3 : tie.Need-returns-3
-returns-3 c =
-    c .check-turns .ensures
-    ∙ ap checked-of (not-doubled (c .before .before .before .before) (past-4 (plan (c .before .before .before .before .before .before .before .before)) (first-point (c .before .before)) refl (c .before .if2 .left) refl))
+returns-3 c = (
+  c .check-turns .ensures
+      ∙ ap checked-of (not-doubled (c .before .before .before .before) (past-4 (plan (c .before .before .before .before .before .before .before .before .before)) (first-point (c .before .before)) refl (c .before .if2 .left) refl)),
+  c .before .before .before .before .before .before .first-doubled .ensures .1,
+)
 
 pub check-ends-spec : {M : Type 1} → statement M
 check-ends-spec =

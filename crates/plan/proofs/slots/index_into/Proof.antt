@@ -1,23 +1,23 @@
--- `slots::index` meets its contract. The loop's invariant: each section before s stands at both of its ends, the other slots are
+-- `slots::index_into` meets its contract. The loop's invariant: each section before s stands at both of its ends, the other slots are
 -- empty, and `filled` counts the sections before s. The measure is what is left of the sections.
 -- Assumes nothing.
 use Prim.Native.Nat.{_-_}
 use native.Mathlib.Omega.{arith}
 use Rattle.plan.proofs.SlotTable.{Held, held-none, held-all, first-room, second-room, held-more}
-use Rattle.plan.proofs.slots.index.Statement.{statement}
-use Rattle.plan.proofs.slots.index.Tie as tie
+use Rattle.plan.proofs.slots.index_into.Statement.{statement}
+use Rattle.plan.proofs.slots.index_into.Tie as tie
 
 abbrev Inv-loop : tie.InvT-loop
-Inv-loop sections count slots₀ filled₀ s₀ slots filled s = Held sections slots filled count s
+Inv-loop sections slots₀ count filled₀ s₀ slots filled s = Held sections slots filled count s
 
 abbrev μ-loop : tie.MeasureT-loop
-μ-loop sections count slots₀ filled₀ s₀ slots filled s = count - s
+μ-loop sections slots₀ count filled₀ s₀ slots filled s = count - s
 
 section-count-requires : tie.Need-section-count-requires Inv-loop μ-loop
 section-count-requires c κs = omega (arith, c .before .pre .0 .few)
 
 loop-holds : tie.Need-loop-holds Inv-loop μ-loop
-loop-holds c = held-none (c .before .before .pre .0) (c .before .before .pre .1) (c .section-count .ensures)
+loop-holds c = let known = c .before .before .pre in rw (known .2) (held-none (known .0) (known .1) (c .section-count .ensures))
 
 section-number-requires : tie.Need-section-number-requires Inv-loop μ-loop
 section-number-requires c κs = tt
@@ -52,8 +52,8 @@ loop-again c =
 returns : tie.Need-returns Inv-loop μ-loop
 returns c = held-all (c .before .loop .inv) (c .loop-test .left)
 
-pub index-spec : {M : Type 1} → statement M
-index-spec =
+pub index-into-spec : {M : Type 1} → statement M
+index-into-spec =
     tie.close
     (tie.spec
     Inv-loop

@@ -1,4 +1,4 @@
--- `check_plan` meets its contract: the verdict of rows 1 and 2, row by row, and then that of the rows below.
+-- `check_and_index` meets its contract: the verdict of rows 1 and 2, row by row, and then that of the rows below.
 -- Assumes nothing.
 use mathlib.Core.Path.{_≡_, ap, refl, _∙_}
 use Prim.Native.Nat.{_≤_}
@@ -8,11 +8,11 @@ use Rattle.rules.specs.Plan.{Plan, plan-of, section-count, turn-count}
 use Rattle.rules.specs.PlanCheck.{section-bad}
 use Rattle.rules.specs.Refusals.{Verdict}
 use Rattle.plan.specs.Answer.{checked-of}
-use Rattle.plan.proofs.Known.{sized, joined-known}
+use Rattle.plan.proofs.Known.{sized, joined-known, plan-three}
 use Rattle.plan.proofs.Looking.{all-clear}
-use Rattle.plan.proofs.Rows.{verdict-past, refused-1, past-1, refused-2, past-2}
-use Rattle.plan.proofs.check_plan.Statement.{statement}
-use Rattle.plan.proofs.check_plan.Tie as tie
+use Rattle.plan.proofs.Rows.{verdict-past, not-refused, refused-1, past-1, refused-2, past-2}
+use Rattle.plan.proofs.check_and_index.Statement.{statement}
+use Rattle.plan.proofs.check_and_index.Tie as tie
 
 -- the plan, seen from where its tables have been looked at
 abbrev plan : tie.After-tables-good → Plan
@@ -31,7 +31,9 @@ tables-good-requires : tie.Need-tables-good-requires
 tables-good-requires c κs = search needs
 
 returns : tie.Need-returns
-returns c = ap checked-of (refused-1 (plan (c .before)) (c .before .tables-good .ensures) (c .if1 .taken))
+returns c =
+    let refused = refused-1 (plan (c .before)) (c .before .tables-good .ensures) (c .if1 .taken) in
+    (ap checked-of refused, λ z. absurd (not-refused (refused ∙ z)))
 
 first-bad-section-requires : tie.Need-first-bad-section-requires
 first-bad-section-requires c κs = let size = sizes c in omega arith
@@ -41,26 +43,32 @@ section-count-requires c κs = let size = sizes (c .before) in omega arith
 
 returns-2 : tie.Need-returns-2
 returns-2 c =
-    ap checked-of (tables-pass (c .before .before .before)
-    (refused-2 (plan (c .before .before .before .before)) (c .before .before .first-bad-section .ensures) (c .before .section-count .ensures) (c .if2 .taken)))
+    let refused = tables-pass (c .before .before .before)
+    (refused-2 (plan (c .before .before .before .before)) (c .before .before .first-bad-section .ensures) (c .before .section-count .ensures) (c .if2 .taken)) in
+    (ap checked-of refused, λ z. absurd (not-refused (refused ∙ z)))
 
 check-ends-requires : tie.Need-check-ends-requires
 check-ends-requires c κs =
-    let size = sizes (c .before .before .before) in
-    let y = plan (c .before .before .before .before) in (
+    let size = sizes (c .before .before .before .before) in
+    let y = plan (c .before .before .before .before .before) in (
       size .0,
-      joined-known (size .0) (size .1) (all-clear (section-bad y) (section-count y) (c .before .before .first-bad-section .ensures) (c .before .section-count .ensures) (c .if2 .left)),
+      joined-known (size .0) (size .1)
+          (all-clear (section-bad y) (section-count y) (c .before .before .before .first-bad-section .ensures) (c .before .before .section-count .ensures) (c .before .if2 .left)),
       size .2,
+      c .before .before .before .before .before .before .before .before .pre,
     )
 
 returns-3 : tie.Need-returns-3
-returns-3 c =
-    c .check-ends .ensures
-    ∙ ap checked-of (tables-pass (c .before .before .before .before)
-    (past-2 (plan (c .before .before .before .before .before)) (c .before .before .before .first-bad-section .ensures) (c .before .before .section-count .ensures) (c .before .if2 .left) refl))
+returns-3 c = (
+  c .check-ends .ensures .0
+      ∙ ap checked-of (tables-pass (c .before .before .before .before .before)
+      (past-2 (plan (c .before .before .before .before .before .before)) (c .before .before .before .before .first-bad-section .ensures) (c .before .before .before .section-count .ensures)
+      (c .before .before .if2 .left) refl)),
+  λ z. c .check-ends .ensures .1 (plan-three (plan (c .before .before .before .before .before .before)) z),
+)
 
-pub check-plan-spec : {M : Type 1} → statement M
-check-plan-spec =
+pub check-and-index-spec : {M : Type 1} → statement M
+check-and-index-spec =
     tie.close
     (tie.spec
     tables-good-requires
