@@ -24,6 +24,7 @@ use own_rule::first_bad_section;
 use read::section_count;
 use read::turn_count;
 use second_turn::first_second_turn;
+use slots::NO_SECTION;
 use tables::tables_good;
 use turn::first_bad_turn;
 
@@ -91,6 +92,6 @@ pub fn check_and_index(
 pub fn check_plan(points: u32, sections: &[u32], turns: &[u32]) -> Checked
     ensures { λ r. ⌜ r ≡ checked-of (verdict (plan-checks (plan-of points (now (sections .entry)) (now (turns .entry))))) ⌝ }
 {
-    let mut slots = [4294967295; 2304];
+    let mut slots = [NO_SECTION; 2304];
     check_and_index(points, sections, turns, &mut slots)
 }

@@ -1,4 +1,4 @@
-// Which sections each point has: three slots a point, filled in ascending order. 4294967295 stands in a slot with no section.
+// Which sections each point has: three slots a point, filled in ascending order.
 ghost use mathlib.Core.Path.{_≡_};
 ghost use Prim.Native.Nat.{_+_, _*_, _<_};
 ghost use lib.ListN.{getD, set};
@@ -9,6 +9,9 @@ use crate::read::END_B;
 use crate::read::section_count;
 use crate::read::section_number;
 use crate::read::wide;
+
+// This stands in a slot with no section.
+pub const NO_SECTION: u32 = 4294967295;
 
 // Puts section s into the next slot of point p.
 fn place(slots: &mut [u32; 2304], filled: &mut [u32; 768], p: u32, s: u32)
@@ -43,7 +46,7 @@ pub fn index(sections: &[u32]) -> [u32; 2304]
     requires { ⌜ Joined (now sections) × AtMostThree (now sections) ⌝ }
     ensures { λ r. ⌜ Slots (now (sections .entry)) r ⌝ }
 {
-    let mut slots = [4294967295; 2304];
+    let mut slots = [NO_SECTION; 2304];
     index_into(sections, &mut slots);
     slots
 }

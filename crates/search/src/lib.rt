@@ -20,11 +20,12 @@ ghost use Rattle.rules.specs.Refusals.{verdict, passed};
 ghost use Rattle.rules.specs.PlanCheck.{plan-checks};
 ghost use Rattle.rules.specs.Query.{query-of};
 ghost use Rattle.rules.specs.Search.{Answer};
+ghost use Rattle.plan.specs.Ends.{Slots};
 ghost use Rattle.train.specs.Asked.{query-asked, Accepted};
 ghost use Rattle.search.specs.Answer.{result-of};
 use plan::Checked;
-use plan::check_plan;
-use plan::slots::index;
+use plan::check_and_index;
+use plan::slots::NO_SECTION;
 use pullout::turn_table::turn_table;
 use rules::NO_DISTANCE;
 use solve::solve;
@@ -42,26 +43,18 @@ pub enum Routed {
 fn find_route(
     sections: &[u32],
     turns: &[u32],
+    slots: &[u32; 2304],
     asked: Asked,
     route: &mut [u32],
     labels: &mut [u32],
 ) -> Routed
-    requires { ⌜ Accepted (query-asked asked (now sections) (now turns)) (length (now labels)) ⌝ }
+    requires { ⌜ Accepted (query-asked asked (now sections) (now turns)) (length (now labels)) × Slots (now sections) (now slots) ⌝ }
     ensures { λ r. ⌜ Answer (query-asked asked (now (sections .entry)) (now (turns .entry))) (now (route .entry)) (now (labels .entry)) (result-of r (now (route .exit)) (now (labels .exit))) ⌝ }
 {
-    let slots = index(sections);
     let table = turn_table(sections, turns);
     let mut known = [NO_DISTANCE; 2048];
     let mut walk = [0; 2048];
-    let steps = solve(
-        sections,
-        turns,
-        &slots,
-        &table,
-        asked,
-        &mut known,
-        &mut walk,
-    );
+    let steps = solve(sections, turns, slots, &table, asked, &mut known, &mut walk);
     write_answer(
         sections,
         turns,
@@ -79,11 +72,12 @@ fn find_route(
 fn search_plan(
     sections: &[u32],
     turns: &[u32],
+    slots: &[u32; 2304],
     asked: Asked,
     route: &mut [u32],
     labels: &mut [u32],
 ) -> Routed
-    requires { ⌜ verdict (plan-checks (plan-of (asked .points) (now sections) (now turns))) ≡ passed ⌝ }
+    requires { ⌜ (verdict (plan-checks (plan-of (asked .points) (now sections) (now turns))) ≡ passed) × Slots (now sections) (now slots) ⌝ }
     ensures { λ r. ⌜ Answer (query-asked asked (now (sections .entry)) (now (turns .entry))) (now (route .entry)) (now (labels .entry)) (result-of r (now (route .exit)) (now (labels .exit))) ⌝ }
 {
     let checked = check_train(
@@ -100,7 +94,7 @@ fn search_plan(
             if labels.len() != 2 * (sections.len() / 6) {
                 return Routed::Refused(11, 0);
             }
-            find_route(sections, turns, asked, route, labels)
+            find_route(sections, turns, slots, asked, route, labels)
         }
     }
 }
@@ -129,9 +123,10 @@ pub fn search(
         finish,
         enter,
     };
-    let checked = check_plan(points, sections, turns);
+    let mut slots = [NO_SECTION; 2304];
+    let checked = check_and_index(points, sections, turns, &mut slots);
     match checked {
         Checked::Refused(number, place) => Routed::Refused(number, place),
-        Checked::Passed => search_plan(sections, turns, asked, route, labels),
+        Checked::Passed => search_plan(sections, turns, &slots, asked, route, labels),
     }
 }

@@ -15,14 +15,15 @@ ghost use Rattle.rules.specs.Refusals.{verdict, passed};
 ghost use Rattle.rules.specs.PlanCheck.{plan-checks};
 ghost use Rattle.rules.specs.Query.{query-of};
 ghost use Rattle.rules.specs.Sheet.{sheet-of};
+ghost use Rattle.plan.specs.Ends.{Slots};
 ghost use Rattle.train.specs.Asked.{query-asked, Accepted};
 ghost use Rattle.pullout.specs.Tables.{TurnTable, Tables};
 ghost use Rattle.sheet.specs.Checking.{SheetPasses, SheetChecked};
 ghost use Rattle.sheet.specs.Answer.{Judges};
 use claim::check_claim;
 use plan::Checked;
-use plan::check_plan;
-use plan::slots::index;
+use plan::check_and_index;
+use plan::slots::NO_SECTION;
 use pullout::turn_table::turn_table;
 use steps::listing::list_steps;
 use steps::reversals::count_reversals;
@@ -103,17 +104,17 @@ fn accept(
 fn judge(
     sections: &[u32],
     turns: &[u32],
+    slots: &[u32; 2304],
     asked: Asked,
     claim: u32,
     list: &[u32],
     labels: &[u32],
 ) -> Judged
-    requires { ⌜ Accepted (query-asked asked (now sections) (now turns)) (length-of (now labels)) ⌝ }
+    requires { ⌜ Accepted (query-asked asked (now sections) (now turns)) (length-of (now labels)) × Slots (now sections) (now slots) ⌝ }
     ensures { λ r. ⌜ Judges (query-asked asked (now (sections .entry)) (now (turns .entry))) (sheet-of claim (now (list .entry)) (now (labels .entry))) r ⌝ }
 {
-    let slots = index(sections);
     let table = turn_table(sections, turns);
-    let checked = check_over_steps(sections, turns, &slots, &table, asked, claim, list, labels);
+    let checked = check_over_steps(sections, turns, slots, &table, asked, claim, list, labels);
     match checked {
         Checked::Refused(number, arrival) => Judged::Refused(number, arrival),
         Checked::Passed => accept(sections, turns, &table, asked, claim, list, labels),
@@ -124,12 +125,13 @@ fn judge(
 fn judge_plan(
     sections: &[u32],
     turns: &[u32],
+    slots: &[u32; 2304],
     asked: Asked,
     claim: u32,
     list: &[u32],
     labels: &[u32],
 ) -> Judged
-    requires { ⌜ verdict (plan-checks (plan-of (asked .points) (now sections) (now turns))) ≡ passed ⌝ }
+    requires { ⌜ (verdict (plan-checks (plan-of (asked .points) (now sections) (now turns))) ≡ passed) × Slots (now sections) (now slots) ⌝ }
     ensures { λ r. ⌜ Judges (query-asked asked (now (sections .entry)) (now (turns .entry))) (sheet-of claim (now (list .entry)) (now (labels .entry))) r ⌝ }
 {
     let checked = check_train(
@@ -146,7 +148,7 @@ fn judge_plan(
             if labels.len() != 2 * (sections.len() / 6) {
                 return Judged::Refused(11, 0);
             }
-            judge(sections, turns, asked, claim, list, labels)
+            judge(sections, turns, slots, asked, claim, list, labels)
         }
     }
 }
@@ -177,9 +179,10 @@ pub fn check_sheet(
         finish,
         enter,
     };
-    let checked = check_plan(points, sections, turns);
+    let mut slots = [NO_SECTION; 2304];
+    let checked = check_and_index(points, sections, turns, &mut slots);
     match checked {
         Checked::Refused(number, place) => Judged::Refused(number, place),
-        Checked::Passed => judge_plan(sections, turns, asked, claim, list, labels),
+        Checked::Passed => judge_plan(sections, turns, &slots, asked, claim, list, labels),
     }
 }

@@ -7,9 +7,9 @@ ghost use Rattle.rules.specs.Query.{query-of};
 ghost use Rattle.rules.specs.Trip.{trip-of};
 ghost use Rattle.steps.specs.StepTable.{Ends};
 ghost use Rattle.steps.specs.Ending.{EndMark};
+use crate::fill::put_pair;
 use plan::read::section_count;
 use plan::read::section_number;
-use plan::read::wide;
 
 // 1 if a walk to the point goal may end at arrival a, else 0.
 fn end_mark(sections: &[u32], finish: u32, goal: u32, a: u32) -> u32
@@ -29,12 +29,13 @@ pub fn fill_ends(sections: &[u32], finish: u32, enter: u32, ends: &mut [u32])
     requires { ⌜ (section-count (of-sections (now sections)) ≤ 1024) × (arrivals (of-sections (now sections)) ≤ length (now ends)) ⌝ }
     ensures { λ _. ⌜ ((v : ℕ) (ts : List ℕ) (l x e : ℕ) → Ends (trip-of (query-of (plan-of v (now (sections .entry)) ts) l x e finish enter)) (now (ends .exit))) ⌝ }
 {
-    let count = 2 * section_count(sections);
+    let count = section_count(sections);
     let goal = section_number(sections, finish, enter);
-    let mut a = 0;
-    while a < count {
-        let mark = end_mark(sections, finish, goal, a);
-        ends[wide(a)] = mark;
-        a += 1;
+    let mut s = 0;
+    while s < count {
+        let first = end_mark(sections, finish, goal, 2 * s);
+        let second = end_mark(sections, finish, goal, 2 * s + 1);
+        put_pair(ends, s, first, second);
+        s += 1;
     }
 }

@@ -11,8 +11,8 @@ use crate::step::Train;
 use plan::read::section_count;
 use plan::read::wide;
 
-// Writes the two places of arrival a.
-fn put_pair(list: &mut [u32], a: u32, x: u32, y: u32)
+// Writes the two places of number a.
+pub(crate) fn put_pair(list: &mut [u32], a: u32, x: u32, y: u32)
     requires { ⌜ 2 * a + 1 < length-of (now list) ⌝ }
     ensures { λ _. ⌜ now (list .exit) ≡ pair-at (now (list .entry)) a x y ⌝ }
 {
