@@ -8,7 +8,7 @@ use Rattle.rules.proofs.Ways.{last}
 use Rattle.pullout.specs.declared.marks.Try.{Try}
 use Rattle.pullout.specs.declared.look.Look.the-variants.{Last}
 use Rattle.pullout.specs.Marks.{Covers, Begun, Past}
-use Rattle.pullout.specs.Tables.{Arrived}
+use Rattle.bounds.specs.Tables.{Arrived}
 use Rattle.pullout.specs.Looked.{Goes, GoesOn, Looked}
 use Rattle.pullout.proofs.Going.{on-arrived, from-there}
 use Rattle.reversal.specs.Reverses.{Reverses}

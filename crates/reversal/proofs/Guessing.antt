@@ -13,11 +13,11 @@ use Rattle.rules.specs.PullOut.{any-section}
 use Rattle.rules.proofs.Tests.{clash, says-true, says-false}
 use Rattle.rules.proofs.Ways.{may-use, mark, Way, free-whole, way-fits, way-onward}
 use Rattle.pullout.specs.declared.look.Look.the-variants.{Shut, On}
-use Rattle.pullout.specs.Tables.{Tables}
-use Rattle.pullout.specs.Looked.{Enters}
+use Rattle.bounds.specs.Tables.{Tables}
+use Rattle.bounds.specs.Reach.{Enters}
 use Rattle.pullout.specs.Tried.{Heads, Over}
-use Rattle.pullout.proofs.Reach.{at-far}
-use Rattle.pullout.proofs.Entering.{entry, entry-T, T-entry}
+use Rattle.bounds.proofs.Reach.{at-far}
+use Rattle.bounds.proofs.Entering.{entry, entry-T, T-entry}
 use Rattle.pullout.proofs.Going.{in-slots}
 use Rattle.reversal.specs.Guessed.{Takes, Glanced, Guessed}
 

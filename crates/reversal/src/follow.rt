@@ -3,7 +3,7 @@ ghost use mathlib.Core.Path.{_≡_};
 ghost use mathlib.Core.Bool.{true};
 ghost use Prim.Native.Nat.{ℕ, _<_};
 ghost use Rattle.rules.specs.Plan.{plan-of};
-ghost use Rattle.pullout.specs.Tables.{Passes, TurnTable, Arrived};
+ghost use Rattle.bounds.specs.Tables.{Passes, TurnTable, Arrived};
 ghost use Rattle.reversal.specs.Reverses.{Reverses};
 use pullout::look::Look;
 use pullout::look::look_at;

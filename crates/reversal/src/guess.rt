@@ -1,8 +1,9 @@
 // A guess at a pull-out: depth first and without marks, so that it costs little, and may pass a point twice. Guessing at a point guesses
 // at its sections, guessing at a section guesses at its far point; each section takes one off the budget.
-ghost use Rattle.pullout.specs.Tables.{Passes, TurnTable, Tables, Arrived};
+ghost use Rattle.bounds.specs.Tables.{Passes, TurnTable, Tables, Arrived};
 ghost use Rattle.pullout.specs.Tried.{Over};
 ghost use Rattle.reversal.specs.Guessed.{Takes, Glanced, Guessed};
+use bounds::enter::may_enter;
 use plan::read::LENGTH;
 use plan::read::section_number;
 use plan::section::far_end;
@@ -10,7 +11,6 @@ use plan::section::free_from;
 use plan::section::is_free;
 use plan::slots::slot_at;
 use pullout::look::Look;
-use pullout::look::may_enter;
 
 // A glance at section e at the point p, come there over section h with the length n left: what it is to a guess, and beyond it the
 // far point and what is then left.

@@ -5,11 +5,11 @@ mod guess;
 
 ghost use Prim.Native.Nat.{ℕ, _<_};
 ghost use Rattle.rules.specs.Plan.{plan-of};
-ghost use Rattle.pullout.specs.Tables.{Tables, Arrived};
+ghost use Rattle.bounds.specs.Tables.{Tables, Arrived};
 ghost use Rattle.reversal.specs.Reverses.{Reverses};
+use cut::cut_for;
 use follow::follow;
 use guess::guess_point;
-use pullout::cut::cut_for;
 use pullout::search::first_pull_out;
 
 // How many sections a guess may try.

@@ -3,8 +3,9 @@
 -- Assumes nothing.
 use Prim.Native.Nat.{_-_}
 use native.Mathlib.Omega.{arith}
-use Rattle.pullout.proofs.Checking.{says-no}
-use Rattle.pullout.proofs.Entering.{arrived-low, on-fits}
+use Rattle.bounds.proofs.Checking.{says-no}
+use Rattle.bounds.proofs.Entering.{arrived-low}
+use Rattle.pullout.proofs.Looking.{on-fits}
 use Rattle.pullout.proofs.Going.{on-low}
 use Rattle.reversal.proofs.Following.{Followed, followed-first, followed-more, followed-last}
 use Rattle.reversal.proofs.follow.follow.Statement.{statement}
