@@ -20,7 +20,7 @@ use Rattle.plan.specs.declared.Checked.{Checked}
 use Rattle.plan.specs.declared.Checked.the-variants.{Passed, Refused}
 use Rattle.plan.specs.Answer.{checked-of}
 use Rattle.plan.proofs.Answers.{answer-passes, answer-refuses}
-use Rattle.pullout.specs.Tables.{Arrived}
+use Rattle.bounds.specs.Tables.{Arrived}
 use Rattle.pullout.specs.Searched.{Searched, none-there, first-there}
 use Rattle.pullout.proofs.Asking.{met, both-there, comes}
 

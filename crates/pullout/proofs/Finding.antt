@@ -2,7 +2,7 @@
 -- Assumes nothing.
 use mathlib.Core.Path.{_≡_, refl, _∙_}
 use mathlib.Core.List.{List, _++_}
-use Prim.Native.Nat.{ℕ, _+_, _≤_, _<_}
+use Prim.Native.Nat.{ℕ, _+_, _<_}
 use native.Mathlib.Omega.{arith}
 use lib.ListN.{length, drop}
 use lib.Seq.{sets-eq}
@@ -11,16 +11,13 @@ use Rattle.rules.specs.PullOut.{any-section}
 use Rattle.rules.proofs.Ways.{may-use, only, Way, fewer-marks}
 use Rattle.rules.proofs.AnyPoints.{way-points}
 use Rattle.rules.proofs.PullWays.{first-pull, no-pull}
+use Rattle.bounds.specs.Reach.{Suits, Held}
+use Rattle.bounds.proofs.Reach.{held-first, held-marks}
 use Rattle.pullout.specs.declared.marks.Try.{Try}
 use Rattle.pullout.specs.Marks.{Begun}
-use Rattle.pullout.specs.Reach.{top, Unknown, Held}
-use Rattle.pullout.specs.Tables.{Passes, Arrived}
 use Rattle.pullout.specs.Looked.{Goes, Bounded}
 use Rattle.pullout.specs.Tried.{Tried, none, smallest}
-use Rattle.pullout.specs.Searched.{Searched, none-there, first-there, Suits}
-use Rattle.pullout.proofs.Reach.{held-first, held-marks}
-use Rattle.pullout.proofs.Unknown.{unknown-right, unknown-begins}
-use Rattle.pullout.proofs.Entering.{passed-joined}
+use Rattle.pullout.specs.Searched.{Searched, none-there, first-there}
 
 -- t is the first try for the length n
 module _ {ss ts : List ℕ} (c s : ℕ) {p n : ℕ} {t : Try} (begun : Begun p n t) where
@@ -46,11 +43,3 @@ module _ {ss ts : List ℕ} (c s : ℕ) {p n : ℕ} {t : Try} (begun : Begun p n
     where
       front : qs ++ drop (0 + length qs) b ≡ qs ++ drop (length qs) b
       front = let e : 0 + length qs ≡ length qs = omega arith in rw e refl
-
--- the table that says nothing suits every pull-out
-pub unknown-suits : {ss ts bounds : List ℕ} {n c p s : ℕ} → Passes ss ts → Arrived ss c p → n ≤ top → Unknown bounds → Suits ss ts bounds n c p s
-unknown-suits {ss} {ts} {n} {c} {p} {s} ok a l u =
-    record {
-      right = unknown-right (plan-of 0 ss ts) (passed-joined ok .few) u (may-use any-section c s);
-      begins = unknown-begins (plan-of 0 ss ts) (passed-joined ok .few) u n c p l (a .inside);
-    }

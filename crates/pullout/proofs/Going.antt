@@ -11,15 +11,15 @@ use lib.ListN.{getD}
 use Rattle.rules.specs.Plan.{plan-of, len, far}
 use Rattle.rules.specs.PullOut.{any-section}
 use Rattle.rules.proofs.Ways.{may-use, mark, Way, last, next, free-whole, way-onward, fewer-marks}
+use Rattle.bounds.specs.Tables.{Passes, Tables, Arrived}
+use Rattle.bounds.specs.Reach.{Enters, Held}
+use Rattle.bounds.proofs.Reach.{at-far, held-marks, held-on}
+use Rattle.bounds.proofs.Entering.{passed-joined, passed-three, arrived-low, far-low}
+use Rattle.bounds.proofs.ThreeSlots.{in-slot, ascending}
 use Rattle.pullout.specs.declared.marks.Try.{Try}
 use Rattle.pullout.specs.Marks.{marked, Past}
-use Rattle.pullout.specs.Tables.{Passes, Tables, Arrived}
-use Rattle.pullout.specs.Reach.{Held}
-use Rattle.pullout.specs.Looked.{Enters, Goes, GoesOn, Bounded}
+use Rattle.pullout.specs.Looked.{Goes, GoesOn, Bounded}
 use Rattle.pullout.specs.Tried.{Heads, Over, Tried}
-use Rattle.pullout.proofs.Reach.{at-far, held-marks, held-on}
-use Rattle.pullout.proofs.Entering.{passed-joined, passed-three, arrived-low, far-low}
-use Rattle.pullout.proofs.ThreeSlots.{in-slot, ascending}
 use Rattle.pullout.proofs.Trying.{found-first, found-second, tried-third}
 
 module _ {ss ts : List ℕ} {c s : ℕ} {t : Try} {h p e q n : ℕ} (g : GoesOn ss ts c s t h p e q n) where

@@ -7,16 +7,12 @@ use Prim.Native.Nat.{ℕ, _≤_, _<_}
 use lib.Dec.{T}
 use Rattle.rules.specs.Plan.{plan-of, len, is-free, far, free-from}
 use Rattle.rules.specs.PullOut.{any-section}
-use Rattle.rules.proofs.Ways.{may-use, Fits, Way}
+use Rattle.rules.proofs.Ways.{may-use, Way}
+use Rattle.bounds.specs.Reach.{Enters, Right, Held}
 use Rattle.pullout.specs.declared.marks.Try.{Try}
 use Rattle.pullout.specs.declared.look.Look.{Look}
 use Rattle.pullout.specs.declared.look.Look.the-variants.{Shut, Last, On}
 use Rattle.pullout.specs.Marks.{marked}
-use Rattle.pullout.specs.Reach.{Right, Held}
-
--- a pull-out for the turn from c to s may enter section e at p, come there over section h
-abbrev pub Enters : List ℕ → List ℕ → ℕ → ℕ → ℕ → ℕ → ℕ → Type 0
-Enters ss ts c s h p e = Fits (plan-of 0 ss ts) (may-use any-section c s) h p e
 
 -- the lists that such a try looks for, when it has come over section h to p
 abbrev pub Goes : List ℕ → List ℕ → ℕ → ℕ → Try → ℕ → ℕ → List ℕ → Type 0

@@ -1,17 +1,9 @@
 // The pull-out of one reversal: refusals 1 to 7, 15, 16 and 14, and the first pull-out.
 mod asked;
-mod bounds;
 pub mod copy;
-pub mod cut;
-mod gates;
 pub mod look;
 pub mod marks;
-mod onward;
-mod right;
-mod runs;
 pub mod search;
-mod spread;
-pub mod turn_table;
 
 ghost use mathlib.Core.Path.{_≡_};
 ghost use Prim.Native.Nat.{ℕ};
@@ -21,16 +13,16 @@ ghost use Rattle.rules.specs.Plan.{plan-of};
 ghost use Rattle.rules.specs.Refusals.{verdict, passed};
 ghost use Rattle.rules.specs.PlanCheck.{plan-checks};
 ghost use Rattle.rules.specs.PullAnswer.{reversal-of, turn-asked, pull-checks, PullAnswer};
-ghost use Rattle.pullout.specs.Tables.{Passes, TurnTable};
+ghost use Rattle.bounds.specs.Tables.{Passes, TurnTable};
 ghost use Rattle.pullout.specs.Answer.{numbers-of};
 use asked::arrival_point;
 use asked::turn_asked;
+use bounds::turn_table::turn_table;
 use copy::copy_front;
 use plan::Checked;
 use plan::check_plan;
 use search::find_pull_out;
 use train::train_good;
-use turn_table::turn_table;
 
 // What is answered: how many sections were written, or a refusal's number and place.
 pub enum Pulled {

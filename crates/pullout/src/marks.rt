@@ -13,7 +13,7 @@ pub struct Try {
 }
 
 // The try has passed point q.
-pub fn is_marked(t: Try, q: u32) -> bool
+pub(crate) fn is_marked(t: Try, q: u32) -> bool
     requires { ⌜ q < 768 ⌝ }
     ensures { λ r. ⌜ r ≡ marked t q ⌝ }
 {

@@ -4,17 +4,18 @@
 ghost use Prim.Native.Nat.{ℕ, _+_, _≤_, _<_};
 ghost use lib.ListN.{length};
 ghost use Rattle.rules.specs.Plan.{plan-of};
+ghost use Rattle.bounds.specs.Tables.{Passes, TurnTable, Tables, Arrived};
+ghost use Rattle.bounds.specs.Reach.{Suits};
 ghost use Rattle.pullout.specs.Marks.{Covers, unmarked};
-ghost use Rattle.pullout.specs.Tables.{Passes, TurnTable, Tables, Arrived};
 ghost use Rattle.pullout.specs.Looked.{Goes, Bounded};
 ghost use Rattle.pullout.specs.Tried.{Over, Tried};
-ghost use Rattle.pullout.specs.Searched.{Searched, Suits};
-use crate::cut::cut_for;
+ghost use Rattle.pullout.specs.Searched.{Searched};
 use crate::look::Look;
 use crate::look::look_ahead;
 use crate::marks::Try;
 use crate::marks::first_try;
 use crate::marks::go_past;
+use cut::cut_for;
 use plan::slots::index;
 use plan::slots::slot_at;
 
@@ -112,7 +113,7 @@ pub fn first_pull_out(
 }
 
 // The same, with the tables made here.
-pub fn find_pull_out(
+pub(crate) fn find_pull_out(
     sections: &[u32],
     turns: &[u32],
     table: &[u32; 1536],

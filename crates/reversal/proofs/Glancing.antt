@@ -12,10 +12,10 @@ use Rattle.rules.specs.PullOut.{any-section}
 use Rattle.rules.proofs.Tests.{clash, says-true, says-false}
 use Rattle.rules.proofs.Ways.{may-use, mark, Way, next, free-whole, way-fits, way-onward}
 use Rattle.pullout.specs.declared.look.Look.the-variants.{Shut, Last, On}
-use Rattle.pullout.specs.Tables.{Passes, Arrived}
-use Rattle.pullout.specs.Looked.{Enters}
-use Rattle.pullout.proofs.Reach.{at-far}
-use Rattle.pullout.proofs.Entering.{entry, entry-T, T-entry, far-low}
+use Rattle.bounds.specs.Tables.{Passes, Arrived}
+use Rattle.bounds.specs.Reach.{Enters}
+use Rattle.bounds.proofs.Reach.{at-far}
+use Rattle.bounds.proofs.Entering.{entry, entry-T, T-entry, far-low}
 use Rattle.reversal.specs.Glanced.{Takes, GoesOver, Glanced}
 
 -- a glance at section e

@@ -11,7 +11,7 @@ use Rattle.rules.specs.PullOut.{any-section}
 use Rattle.rules.proofs.Ways.{may-use, Way}
 use Rattle.pullout.specs.declared.look.Look.{Look}
 use Rattle.pullout.specs.declared.look.Look.the-variants.{Shut, Last, On}
-use Rattle.pullout.specs.Looked.{Enters}
+use Rattle.bounds.specs.Reach.{Enters}
 
 -- the list takes the length n of a train that came over section h to p and is pulled out for the turn from c to s, with some marks
 pub record Takes (ss ts : List ℕ) (c s n h p : ℕ) (qs : List ℕ) : Type 0 where

@@ -1,13 +1,13 @@
 // A glance at one section: what it is to a pull-out, whatever points have been passed.
-ghost use Rattle.pullout.specs.Tables.{Passes, TurnTable, Arrived};
+ghost use Rattle.bounds.specs.Tables.{Passes, TurnTable, Arrived};
 ghost use Rattle.reversal.specs.Glanced.{Glanced};
+use bounds::enter::may_enter;
 use plan::read::LENGTH;
 use plan::read::section_number;
 use plan::section::far_end;
 use plan::section::free_from;
 use plan::section::is_free;
 use pullout::look::Look;
-use pullout::look::may_enter;
 
 // What section e is at the point p, come there over section h with the length n left; beyond it, the far point and what is then left.
 pub(crate) fn glance(

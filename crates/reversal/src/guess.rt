@@ -1,6 +1,6 @@
 // A guess at a pull-out: depth first and without marks, so that it costs little, and may pass a point twice. Guessing at a point guesses
 // at its sections, guessing at a section guesses at its far point; each section takes one off the budget.
-ghost use Rattle.pullout.specs.Tables.{Tables, Arrived};
+ghost use Rattle.bounds.specs.Tables.{Tables, Arrived};
 ghost use Rattle.pullout.specs.Tried.{Over};
 ghost use Rattle.reversal.specs.Glanced.{Takes};
 ghost use Rattle.reversal.specs.Guessed.{Guessed};

@@ -6,10 +6,10 @@ mod run;
 
 ghost use Prim.Native.Nat.{ℕ, _<_};
 ghost use Rattle.rules.specs.Plan.{plan-of};
-ghost use Rattle.pullout.specs.Tables.{Tables, Arrived};
+ghost use Rattle.bounds.specs.Tables.{Tables, Arrived};
 ghost use Rattle.reversal.specs.Reverses.{Reverses};
+use cut::cut_for;
 use guess::guess_point;
-use pullout::cut::cut_for;
 use pullout::search::first_pull_out;
 use run::follow;
 use run::runs_out;

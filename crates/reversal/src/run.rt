@@ -6,7 +6,7 @@ ghost use mathlib.Core.Logic.{_≢_};
 ghost use Prim.Native.Nat.{ℕ, _≤_, _<_};
 ghost use lib.ListN.{getD};
 ghost use Rattle.rules.specs.Plan.{plan-of};
-ghost use Rattle.pullout.specs.Tables.{Passes, TurnTable, Tables, Arrived};
+ghost use Rattle.bounds.specs.Tables.{Passes, TurnTable, Tables, Arrived};
 ghost use Rattle.reversal.specs.Reverses.{Reverses};
 use crate::glance::glance;
 use plan::slots::slot_at;

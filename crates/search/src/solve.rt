@@ -2,7 +2,7 @@
 ghost use Prim.Native.Nat.{_≤_, _<_};
 ghost use lib.ListN.{length};
 ghost use Rattle.rules.proofs.Sound.{Sound};
-ghost use Rattle.pullout.specs.Tables.{Tables};
+ghost use Rattle.bounds.specs.Tables.{Tables};
 ghost use Rattle.distance.specs.Table.{table-net, Table};
 ghost use Rattle.distance.specs.Labels.{Blank};
 ghost use Rattle.train.specs.Asked.{query-asked};

@@ -3,7 +3,7 @@ ghost use Prim.Native.Nat.{_≤_};
 ghost use lib.ListN.{length};
 ghost use Rattle.rules.proofs.Sound.{Sound};
 ghost use Rattle.train.specs.Asked.{query-asked};
-ghost use Rattle.pullout.specs.Tables.{Tables};
+ghost use Rattle.bounds.specs.Tables.{Tables};
 ghost use Rattle.steps.specs.Listing.{Listing};
 use crate::ends::fill_ends;
 use crate::fill_steps;

@@ -1,7 +1,8 @@
 -- `look::look_ahead` meets its contract: what the look by itself tells stands, unless the reach beyond the section is too short.
 -- Assumes nothing.
 use native.Mathlib.Omega.{arith}
-use Rattle.pullout.proofs.Entering.{section-low, on-fits, cut-off}
+use Rattle.bounds.proofs.Entering.{section-low}
+use Rattle.pullout.proofs.Looking.{on-fits, cut-off}
 use borrow.Author.Needs.{needs}
 use Rattle.pullout.proofs.look.look_ahead.Statement.{statement}
 use Rattle.pullout.proofs.look.look_ahead.Tie as tie

@@ -1,7 +1,8 @@
 -- `look::look_at` meets its contract: the tests of a way's first section, in their order.
 -- Assumes nothing.
 use native.Mathlib.Omega.{arith}
-use Rattle.pullout.proofs.Entering.{far-low, looked-out, looked-in, occupied, passed-before, goes-on}
+use Rattle.bounds.proofs.Entering.{far-low}
+use Rattle.pullout.proofs.Looking.{looked-out, looked-in, occupied, passed-before, goes-on}
 use borrow.Author.Needs.{needs}
 use Rattle.pullout.proofs.look.look_at.Statement.{statement}
 use Rattle.pullout.proofs.look.look_at.Tie as tie

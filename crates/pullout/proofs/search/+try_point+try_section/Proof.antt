@@ -6,9 +6,10 @@ use mathlib.Core.Path.{_∙_}
 use native.Mathlib.Omega.{arith}
 use lib.ListN.{length-set}
 use Rattle.rules.proofs.Ways.{last as by-itself}
+use Rattle.bounds.proofs.Entering.{arrived-low}
 use Rattle.pullout.specs.Marks.{unmarked}
 use Rattle.pullout.specs.Looked.{Goes}
-use Rattle.pullout.proofs.Entering.{arrived-low, on-fits}
+use Rattle.pullout.proofs.Looking.{on-fits}
 use Rattle.pullout.proofs.Going.{on-low, on-arrived, from-there, to-there, on-bounded, point-first, point-second, point-third}
 use Rattle.pullout.proofs.Trying.{over-none, over-last, over-missed, over-found}
 use Prim.Native.Nat.{ℕ, _+_, _<_}

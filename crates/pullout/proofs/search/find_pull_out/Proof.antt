@@ -1,6 +1,6 @@
 -- `search::find_pull_out` meets its contract: the tables are made as the search asks for them.
 -- Assumes nothing.
-use Rattle.pullout.proofs.Entering.{passed-joined, passed-three}
+use Rattle.bounds.proofs.Entering.{passed-joined, passed-three}
 use borrow.Author.Needs.{needs}
 use Rattle.pullout.proofs.search.find_pull_out.Statement.{statement}
 use Rattle.pullout.proofs.search.find_pull_out.Tie as tie

@@ -1,7 +1,7 @@
 -- `search::first_pull_out` meets its contract: the first try marks p alone, and a point's try finds the smallest way.
 -- Assumes nothing.
 use native.Mathlib.Omega.{arith}
-use Rattle.pullout.proofs.Entering.{arrived-low}
+use Rattle.bounds.proofs.Entering.{arrived-low}
 use Rattle.pullout.proofs.Finding.{begun-bounded, searched}
 use borrow.Author.Needs.{needs}
 use Rattle.pullout.proofs.search.first_pull_out.Statement.{statement}
