@@ -1,12 +1,11 @@
 // All remaining distances and the first shortest walk of a query that has passed its checks.
-ghost use Prim.Native.Nat.{_≤_, _<_};
+ghost use Prim.Native.Nat.{_*_, _≤_, _<_};
 ghost use lib.ListN.{length};
-ghost use Rattle.rules.proofs.Sound.{Sound};
-ghost use Rattle.bounds.specs.Tables.{Tables};
+ghost use Rattle.rules.specs.Plan.{of-sections, section-count, arrivals};
 ghost use Rattle.distance.specs.Table.{table-net, Table};
 ghost use Rattle.distance.specs.Labels.{Blank};
 ghost use Rattle.train.specs.Asked.{query-asked};
-ghost use Rattle.search.specs.Solved.{SolvedOver, Solved};
+ghost use Rattle.search.specs.Solved.{SolvedOver, Solvable, Solved};
 use distance::first_walk;
 use distance::remaining;
 use rules::NO_DISTANCE;
@@ -36,6 +35,95 @@ fn solve_over(
     first_walk(next, cost, ends, room, count, known, from, walk)
 }
 
+// All labels and the walk of what is asked, with the tables that are lent; the answer is how many steps the walk has.
+fn solve_with(
+    sections: &[u32],
+    turns: &[u32],
+    slots: &[u32; 2304],
+    table: &[u32; 1536],
+    asked: Asked,
+    next: &mut [u32],
+    cost: &mut [u32],
+    ends: &mut [u32],
+    known: &mut [u32],
+    walk: &mut [u32],
+) -> usize
+    requires { ⌜ Solvable (query-asked asked (now sections) (now turns)) (now slots) (now table) (now known) (now walk) × (2 * arrivals (of-sections (now sections)) ≤ length (now next)) × (2 * arrivals (of-sections (now sections)) ≤ length (now cost)) × (arrivals (of-sections (now sections)) ≤ length (now ends)) ⌝ }
+    ensures { λ r. ⌜ Solved (query-asked asked (now (sections .entry)) (now (turns .entry))) (now (known .exit)) (now (walk .exit)) r ⌝ }
+{
+    list_steps(sections, turns, slots, table, asked, next, cost, ends);
+    let room = finish_room(
+        sections,
+        asked.length,
+        asked.start,
+        asked.finish,
+        asked.enter,
+    );
+    let count = 2 * (sections.len() / 6);
+    let from = start_arrival(asked.start, asked.leave);
+    solve_over(next, cost, ends, room, count, from, known, walk)
+}
+
+// The same for a plan of at most 64 sections. Clearing tables takes time, so small plans have small ones.
+fn solve_small(
+    sections: &[u32],
+    turns: &[u32],
+    slots: &[u32; 2304],
+    table: &[u32; 1536],
+    asked: Asked,
+    known: &mut [u32],
+    walk: &mut [u32],
+) -> usize
+    requires { ⌜ Solvable (query-asked asked (now sections) (now turns)) (now slots) (now table) (now known) (now walk) × (section-count (of-sections (now sections)) ≤ 64) ⌝ }
+    ensures { λ r. ⌜ Solved (query-asked asked (now (sections .entry)) (now (turns .entry))) (now (known .exit)) (now (walk .exit)) r ⌝ }
+{
+    let mut next = [NO_DISTANCE; 256];
+    let mut cost = [0; 256];
+    let mut ends = [0; 128];
+    solve_with(
+        sections,
+        turns,
+        slots,
+        table,
+        asked,
+        &mut next,
+        &mut cost,
+        &mut ends,
+        known,
+        walk,
+    )
+}
+
+// The same for any plan.
+fn solve_large(
+    sections: &[u32],
+    turns: &[u32],
+    slots: &[u32; 2304],
+    table: &[u32; 1536],
+    asked: Asked,
+    known: &mut [u32],
+    walk: &mut [u32],
+) -> usize
+    requires { ⌜ Solvable (query-asked asked (now sections) (now turns)) (now slots) (now table) (now known) (now walk) ⌝ }
+    ensures { λ r. ⌜ Solved (query-asked asked (now (sections .entry)) (now (turns .entry))) (now (known .exit)) (now (walk .exit)) r ⌝ }
+{
+    let mut next = [NO_DISTANCE; 4096];
+    let mut cost = [0; 4096];
+    let mut ends = [0; 2048];
+    solve_with(
+        sections,
+        turns,
+        slots,
+        table,
+        asked,
+        &mut next,
+        &mut cost,
+        &mut ends,
+        known,
+        walk,
+    )
+}
+
 // All labels and the walk of what is asked; the answer is how many steps the walk has.
 pub fn solve(
     sections: &[u32],
@@ -46,30 +134,11 @@ pub fn solve(
     known: &mut [u32],
     walk: &mut [u32],
 ) -> usize
-    requires { ⌜ Sound (query-asked asked (now sections) (now turns)) × Tables (now sections) (now turns) (now slots) (now table) × (2048 ≤ length (now known)) × (2048 ≤ length (now walk)) × Blank 2048 (now known) ⌝ }
+    requires { ⌜ Solvable (query-asked asked (now sections) (now turns)) (now slots) (now table) (now known) (now walk) ⌝ }
     ensures { λ r. ⌜ Solved (query-asked asked (now (sections .entry)) (now (turns .entry))) (now (known .exit)) (now (walk .exit)) r ⌝ }
 {
-    let mut next = [NO_DISTANCE; 4096];
-    let mut cost = [0; 4096];
-    let mut ends = [0; 2048];
-    list_steps(
-        sections,
-        turns,
-        slots,
-        table,
-        asked,
-        &mut next,
-        &mut cost,
-        &mut ends,
-    );
-    let room = finish_room(
-        sections,
-        asked.length,
-        asked.start,
-        asked.finish,
-        asked.enter,
-    );
-    let count = 2 * (sections.len() / 6);
-    let from = start_arrival(asked.start, asked.leave);
-    solve_over(&next, &cost, &ends, room, count, from, known, walk)
+    if sections.len() / 6 <= 64 {
+        return solve_small(sections, turns, slots, table, asked, known, walk);
+    }
+    solve_large(sections, turns, slots, table, asked, known, walk)
 }

@@ -1,6 +1,7 @@
 // The tables of what is asked, all at once.
-ghost use Prim.Native.Nat.{_≤_};
+ghost use Prim.Native.Nat.{_*_, _≤_};
 ghost use lib.ListN.{length};
+ghost use Rattle.rules.specs.Plan.{of-sections, arrivals};
 ghost use Rattle.rules.proofs.Sound.{Sound};
 ghost use Rattle.train.specs.Asked.{query-asked};
 ghost use Rattle.bounds.specs.Tables.{Tables};
@@ -20,7 +21,7 @@ pub fn list_steps(
     cost: &mut [u32],
     ends: &mut [u32],
 )
-    requires { ⌜ Sound (query-asked asked (now sections) (now turns)) × Tables (now sections) (now turns) (now slots) (now table) × (4096 ≤ length (now next)) × (4096 ≤ length (now cost)) × (2048 ≤ length (now ends)) ⌝ }
+    requires { ⌜ Sound (query-asked asked (now sections) (now turns)) × Tables (now sections) (now turns) (now slots) (now table) × (2 * arrivals (of-sections (now sections)) ≤ length (now next)) × (2 * arrivals (of-sections (now sections)) ≤ length (now cost)) × (arrivals (of-sections (now sections)) ≤ length (now ends)) ⌝ }
     ensures { λ _. ⌜ Listing (query-asked asked (now (sections .entry)) (now (turns .entry))) (now (next .exit)) (now (cost .exit)) (now (ends .exit)) ⌝ }
 {
     fill_steps(

@@ -4,7 +4,7 @@ use native.Mathlib.Omega.{arith}
 use lib.ListN.{length}
 use Rattle.rules.specs.Plan.{plan-of}
 use Rattle.rules.proofs.Sound.{sound}
-use Rattle.plan.proofs.Known.{plan-joined, plan-three, plan-turned}
+use Rattle.plan.proofs.Known.{plan-turned}
 use Rattle.distance.proofs.Fronts.{blank-new}
 use Rattle.train.specs.Asked.{query-asked}
 use Rattle.train.proofs.Refusing.{plan-accepted}
@@ -12,15 +12,10 @@ use borrow.Author.Needs.{needs}
 use Rattle.search.proofs.find_route.Statement.{statement}
 use Rattle.search.proofs.find_route.Tie as tie
 
-index-requires : tie.Need-index-requires
-index-requires c κs =
-    let s = c .before .before .before .before in
-    (plan-joined (plan-of (s .args .asked .points) (s .args .sections .now) (s .args .turns .now)) (plan-accepted (query-asked (s .args .asked) (s .args .sections .now) (s .args .turns .now)) (length (s .args .labels .now)) (s .pre)), plan-three (plan-of (s .args .asked .points) (s .args .sections .now) (s .args .turns .now)) (plan-accepted (query-asked (s .args .asked) (s .args .sections .now) (s .args .turns .now)) (length (s .args .labels .now)) (s .pre)))
-
 turn-table-requires : tie.Need-turn-table-requires
 turn-table-requires c κs =
-    let s = c .before .before .before .before .before in
-    plan-turned (plan-of (s .args .asked .points) (s .args .sections .now) (s .args .turns .now)) (plan-accepted (query-asked (s .args .asked) (s .args .sections .now) (s .args .turns .now)) (length (s .args .labels .now)) (s .pre))
+    let s = c .before .before .before .before in
+    plan-turned (plan-of (s .args .asked .points) (s .args .sections .now) (s .args .turns .now)) (plan-accepted (query-asked (s .args .asked) (s .args .sections .now) (s .args .turns .now)) (length (s .args .labels .now)) (s .pre .0))
 
 slice-aggregate-solve : tie.Need-slice-aggregate-solve
 slice-aggregate-solve c = search needs
@@ -30,9 +25,9 @@ slice-aggregate-solve-2 c = search needs
 
 solve-requires : tie.Need-solve-requires
 solve-requires c κs =
-    let s = c .before .before .before .before .before .before .before .before .before .before in
+    let s = c .before .before .before .before .before .before .before .before .before in
     let sections = s .args .sections .now in
-    (sound (query-asked (s .args .asked) (s .args .sections .now) (s .args .turns .now)) (length (s .args .labels .now)) (s .pre), record { checked = record { points = s .args .asked .points; passes = (plan-accepted (query-asked (s .args .asked) (s .args .sections .now) (s .args .turns .now)) (length (s .args .labels .now)) (s .pre)) }; slotted = c .before .before .before .before .before .index .ensures; turned = c .before .before .before .before .turn-table .ensures }, search needs, search needs, blank-new 2048 2048 (omega arith))
+    (sound (query-asked (s .args .asked) (s .args .sections .now) (s .args .turns .now)) (length (s .args .labels .now)) (s .pre .0), record { checked = record { points = s .args .asked .points; passes = (plan-accepted (query-asked (s .args .asked) (s .args .sections .now) (s .args .turns .now)) (length (s .args .labels .now)) (s .pre .0)) }; slotted = s .pre .1; turned = c .before .before .before .before .turn-table .ensures }, search needs, search needs, blank-new 2048 2048 (omega arith))
 
 slice-aggregate-write-answer : tie.Need-slice-aggregate-write-answer
 slice-aggregate-write-answer c = search needs
@@ -56,7 +51,6 @@ pub find-route-spec : {M : Type 1} → statement M
 find-route-spec =
     tie.close
     (tie.spec
-    index-requires
     turn-table-requires
     slice-aggregate-solve
     slice-aggregate-solve-2

@@ -11,8 +11,8 @@ use borrow.Author.Needs.{needs}
 use Rattle.search.proofs.search.Statement.{statement}
 use Rattle.search.proofs.search.Tie as tie
 
-check-plan-requires : tie.Need-check-plan-requires
-check-plan-requires c κs = search needs
+check-and-index-requires : tie.Need-check-and-index-requires
+check-and-index-requires c κs = search needs
 
 enum-known-checked : tie.Need-enum-known-checked
 enum-known-checked c = search needs
@@ -23,12 +23,12 @@ enum-told c = search needs
 search-plan-requires : tie.Need-search-plan-requires
 search-plan-requires c κs =
     let s = c .before .before .before .before .before .before .before .before .before in
-    answer-passes (plan-checks (plan-of (s .args .points) (s .args .sections .now) (s .args .turns .now))) tt (c .before .before .before .before .check-plan .ensures) (c .before .before .enum-told .given .1)
+    answer-passes (plan-checks (plan-of (s .args .points) (s .args .sections .now) (s .args .turns .now))) tt (c .before .before .before .before .check-and-index .ensures .0) (c .before .before .enum-told .given .1)
 
 returns : tie.Need-returns
 returns c =
     let s = c .before .before .before .before .before .before .before .before in
-    turned-away (s .args .route .now) (s .args .labels .now) (plan-refused (query-of (plan-of (s .args .points) (s .args .sections .now) (s .args .turns .now)) (s .args .length) (s .args .start) (s .args .leave) (s .args .finish) (s .args .enter)) (length (s .args .labels .now)) (c .before .before .before .check-plan .ensures) (c .before .checked .given .1))
+    turned-away (s .args .route .now) (s .args .labels .now) (plan-refused (query-of (plan-of (s .args .points) (s .args .sections .now) (s .args .turns .now)) (s .args .length) (s .args .start) (s .args .leave) (s .args .finish) (s .args .enter)) (length (s .args .labels .now)) (c .before .before .before .check-and-index .ensures .0) (c .before .checked .given .1))
 
 same-length : tie.Need-same-length
 same-length c = search needs
@@ -43,7 +43,7 @@ pub search-spec : {M : Type 1} → statement M
 search-spec =
     tie.close
     (tie.spec
-    check-plan-requires
+    check-and-index-requires
     enum-known-checked
     enum-told
     search-plan-requires

@@ -23,17 +23,17 @@ mul-if1 c = search needs
 returns : tie.Need-returns
 returns c =
     let s = c .before .before .before .before .before .before .before .before in
-    turned-away (s .args .route .now) (s .args .labels .now) (labels-refused (query-asked (s .args .asked) (s .args .sections .now) (s .args .turns .now)) (length (s .args .labels .now)) (s .pre) (c .before .before .before .check-train .ensures) (c .before .enum-told .given .1) (c .if1 .taken))
+    turned-away (s .args .route .now) (s .args .labels .now) (labels-refused (query-asked (s .args .asked) (s .args .sections .now) (s .args .turns .now)) (length (s .args .labels .now)) (s .pre .0) (c .before .before .before .check-train .ensures) (c .before .enum-told .given .1) (c .if1 .taken))
 
 find-route-requires : tie.Need-find-route-requires
 find-route-requires c κs =
     let s = c .before .before .before .before .before .before .before .before .before .before in
-    accepted (query-asked (s .args .asked) (s .args .sections .now) (s .args .turns .now)) (length (s .args .labels .now)) (s .pre) (c .before .before .before .before .before .check-train .ensures) (c .before .before .before .enum-told .given .1) (c .before .before .if1 .left)
+    (accepted (query-asked (s .args .asked) (s .args .sections .now) (s .args .turns .now)) (length (s .args .labels .now)) (s .pre .0) (c .before .before .before .before .before .check-train .ensures) (c .before .before .before .enum-told .given .1) (c .before .before .if1 .left), s .pre .1)
 
 returns-2 : tie.Need-returns-2
 returns-2 c =
     let s = c .before .before .before .before .before .before .before .before in
-    turned-away (s .args .route .now) (s .args .labels .now) (train-refused (query-asked (s .args .asked) (s .args .sections .now) (s .args .turns .now)) (length (s .args .labels .now)) (s .pre) (c .before .before .before .check-train .ensures) (c .before .checked .given .1))
+    turned-away (s .args .route .now) (s .args .labels .now) (train-refused (query-asked (s .args .asked) (s .args .sections .now) (s .args .turns .now)) (length (s .args .labels .now)) (s .pre .0) (c .before .before .before .check-train .ensures) (c .before .checked .given .1))
 
 same-length : tie.Need-same-length
 same-length c = search needs

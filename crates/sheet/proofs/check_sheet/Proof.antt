@@ -11,8 +11,8 @@ use borrow.Author.Needs.{needs}
 use Rattle.sheet.proofs.check_sheet.Statement.{statement}
 use Rattle.sheet.proofs.check_sheet.Tie as tie
 
-check-plan-requires : tie.Need-check-plan-requires
-check-plan-requires c κs = search needs
+check-and-index-requires : tie.Need-check-and-index-requires
+check-and-index-requires c κs = search needs
 
 enum-known-checked : tie.Need-enum-known-checked
 enum-known-checked c = search needs
@@ -21,13 +21,13 @@ enum-told : tie.Need-enum-told
 enum-told c = search needs
 
 judge-plan-requires : tie.Need-judge-plan-requires
-judge-plan-requires c κs = let s = c .before .before .before .before .before .before .before in answer-passes (plan-checks (plan-of (s .args .points) (s .args .sections .now) (s .args .turns .now))) tt (c .before .before .check-plan .ensures) (c .enum-told .given .1)
+judge-plan-requires c κs = let s = c .before .before .before .before .before .before .before in answer-passes (plan-checks (plan-of (s .args .points) (s .args .sections .now) (s .args .turns .now))) tt (c .before .before .check-and-index .ensures .0) (c .enum-told .given .1)
 
 returns : tie.Need-returns
 returns c =
     let s = c .before .before .before .before .before .before .before .before in
     let query = query-of (plan-of (s .args .points) (s .args .sections .now) (s .args .turns .now)) (s .args .length) (s .args .start) (s .args .leave) (s .args .finish) (s .args .enter) in
-    turned-away (plan-refused query (length (s .args .labels .now)) (c .before .before .before .check-plan .ensures) (c .before .checked .given .1))
+    turned-away (plan-refused query (length (s .args .labels .now)) (c .before .before .before .check-and-index .ensures .0) (c .before .checked .given .1))
 
 returns-2 : tie.Need-returns-2
 returns-2 c = search needs
@@ -36,7 +36,7 @@ pub check-sheet-spec : {M : Type 1} → statement M
 check-sheet-spec =
     tie.close
     (tie.spec
-    check-plan-requires
+    check-and-index-requires
     enum-known-checked
     enum-told
     judge-plan-requires

@@ -1,10 +1,10 @@
--- `solve` meets its contract: what solves the table's net solves the query.
+-- `solve::solve_with` meets its contract: what solves the table's net solves the query.
 -- Assumes nothing.
 use native.Mathlib.Omega.{arith}
 use Rattle.search.proofs.Solving.{listing-table, solved-query}
 use borrow.Author.Needs.{needs}
-use Rattle.search.proofs.solve.solve.Statement.{statement}
-use Rattle.search.proofs.solve.solve.Tie as tie
+use Rattle.search.proofs.solve.solve_with.Statement.{statement}
+use Rattle.search.proofs.solve.solve_with.Tie as tie
 
 slice-aggregate-list-steps : tie.Need-slice-aggregate-list-steps
 slice-aggregate-list-steps c = search needs
@@ -54,8 +54,8 @@ returns c =
     let over = rw (c .before .before .before .before .before .before .before .before .before .before .before .finish-room .ensures, c .before .before .before .before .before .before .before .before .before .before .start-arrival .ensures) at (c .before .before .before .before .solve-over .ensures) in
     solved-query (s .pre .0) (c .before .before .before .before .before .before .before .before .before .before .before .before .before .before .before .list-steps .ensures) over
 
-pub solve-spec : {M : Type 1} → statement M
-solve-spec =
+pub solve-with-spec : {M : Type 1} → statement M
+solve-with-spec =
     tie.close
     (tie.spec
     slice-aggregate-list-steps
