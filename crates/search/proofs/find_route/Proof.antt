@@ -25,9 +25,15 @@ slice-aggregate-solve-2 c = search needs
 
 solve-requires : tie.Need-solve-requires
 solve-requires c κs =
-    let s = c .before .before .before .before .before .before .before .before .before in
-    let sections = s .args .sections .now in
-    (sound (query-asked (s .args .asked) (s .args .sections .now) (s .args .turns .now)) (length (s .args .labels .now)) (s .pre .0), record { checked = record { points = s .args .asked .points; passes = (plan-accepted (query-asked (s .args .asked) (s .args .sections .now) (s .args .turns .now)) (length (s .args .labels .now)) (s .pre .0)) }; slotted = s .pre .1; turned = c .before .before .before .before .turn-table .ensures }, search needs, search needs, blank-new 2048 2048 (omega arith))
+    let s = c .before .before .before .before .before .before .before .before in
+    let query = query-asked (s .args .asked) (s .args .sections .now) (s .args .turns .now) in
+    let checked = plan-accepted query (length (s .args .labels .now)) (s .pre .0) in (
+      sound query (length (s .args .labels .now)) (s .pre .0),
+      record { checked = record { points = s .args .asked .points; passes = checked }; slotted = s .pre .1; turned = c .before .before .before .turn-table .ensures },
+      search needs,
+      search needs,
+      blank-new 2048 2048 (omega arith),
+    )
 
 slice-aggregate-write-answer : tie.Need-slice-aggregate-write-answer
 slice-aggregate-write-answer c = search needs

@@ -22,13 +22,16 @@ enum-told c = search needs
 
 search-plan-requires : tie.Need-search-plan-requires
 search-plan-requires c κs =
-    let s = c .before .before .before .before .before .before .before .before .before in
-    answer-passes (plan-checks (plan-of (s .args .points) (s .args .sections .now) (s .args .turns .now))) tt (c .before .before .before .before .check-and-index .ensures .0) (c .before .before .enum-told .given .1)
+    let s = c .before .before .before .before .before .before .before .before .before .before .before in
+    let check = c .before .before .before .before .before .check-and-index .ensures in
+    let passes = answer-passes (plan-checks (plan-of (s .args .points) (s .args .sections .now) (s .args .turns .now))) tt (check .0) (c .before .before .before .enum-told .given .1) in
+    (passes, check .1 passes)
 
 returns : tie.Need-returns
 returns c =
-    let s = c .before .before .before .before .before .before .before .before in
-    turned-away (s .args .route .now) (s .args .labels .now) (plan-refused (query-of (plan-of (s .args .points) (s .args .sections .now) (s .args .turns .now)) (s .args .length) (s .args .start) (s .args .leave) (s .args .finish) (s .args .enter)) (length (s .args .labels .now)) (c .before .before .before .check-and-index .ensures .0) (c .before .checked .given .1))
+    let s = c .before .before .before .before .before .before .before .before .before in
+    let query = query-of (plan-of (s .args .points) (s .args .sections .now) (s .args .turns .now)) (s .args .length) (s .args .start) (s .args .leave) (s .args .finish) (s .args .enter) in
+    turned-away (s .args .route .now) (s .args .labels .now) (plan-refused query (length (s .args .labels .now)) (c .before .before .before .check-and-index .ensures .0) (c .before .checked .given .1))
 
 same-length : tie.Need-same-length
 same-length c = search needs
