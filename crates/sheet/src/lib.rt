@@ -6,6 +6,7 @@
 // `shortest-is-accepted` and `no-route-is-accepted`. So the search's own answer is accepted (`search-is-accepted`).
 mod claim;
 mod rule;
+mod tables;
 mod walk;
 
 ghost use mathlib.Core.Path.{_≡_};
@@ -21,60 +22,20 @@ ghost use Rattle.bounds.specs.Tables.{TurnTable, Tables};
 ghost use Rattle.sheet.specs.Checking.{SheetPasses, SheetChecked};
 ghost use Rattle.sheet.specs.Answer.{Judges};
 use bounds::turn_table::turn_table;
-use claim::check_claim;
 use plan::Checked;
 use plan::check_and_index;
 use plan::slots::NO_SECTION;
-use steps::listing::list_steps;
 use steps::reversals::count_reversals;
+use tables::check_over_steps;
 use train::Asked;
 use train::check_train;
 use train::place::first_distance;
 use train::place::start_arrival;
-use train::room::finish_room;
 
 // What is answered: an accepted list's total, reversals and steps (zeros for "no route"), or a refusal's number and place.
 pub enum Judged {
     Accepted(u32, u32, u32),
     Refused(u32, u32),
-}
-
-// Refusals 17 to 19, where 1 to 11 do not apply.
-fn check_over_steps(
-    sections: &[u32],
-    turns: &[u32],
-    slots: &[u32; 2304],
-    table: &[u32; 1536],
-    asked: Asked,
-    claim: u32,
-    list: &[u32],
-    labels: &[u32],
-) -> Checked
-    requires { ⌜ Accepted (query-asked asked (now sections) (now turns)) (length-of (now labels)) × Tables (now sections) (now turns) (now slots) (now table) ⌝ }
-    ensures { λ r. ⌜ SheetChecked (query-asked asked (now (sections .entry)) (now (turns .entry))) (sheet-of claim (now (list .entry)) (now (labels .entry))) r ⌝ }
-{
-    let mut next = [4294967295; 4096];
-    let mut cost = [0; 4096];
-    let mut ends = [0; 2048];
-    list_steps(
-        sections,
-        turns,
-        slots,
-        table,
-        asked,
-        &mut next,
-        &mut cost,
-        &mut ends,
-    );
-    let room = finish_room(
-        sections,
-        asked.length,
-        asked.start,
-        asked.finish,
-        asked.enter,
-    );
-    let from = start_arrival(asked.start, asked.leave);
-    check_claim(&next, &cost, &ends, room, from, claim, list, labels)
 }
 
 // The numbers of a sheet that passes.

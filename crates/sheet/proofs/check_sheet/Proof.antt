@@ -21,11 +21,15 @@ enum-told : tie.Need-enum-told
 enum-told c = search needs
 
 judge-plan-requires : tie.Need-judge-plan-requires
-judge-plan-requires c κs = let s = c .before .before .before .before .before .before .before in answer-passes (plan-checks (plan-of (s .args .points) (s .args .sections .now) (s .args .turns .now))) tt (c .before .before .check-and-index .ensures .0) (c .enum-told .given .1)
+judge-plan-requires c κs =
+    let s = c .before .before .before .before .before .before .before .before .before in
+    let check = c .before .before .before .check-and-index .ensures in
+    let passes = answer-passes (plan-checks (plan-of (s .args .points) (s .args .sections .now) (s .args .turns .now))) tt (check .0) (c .before .enum-told .given .1) in
+    (passes, check .1 passes)
 
 returns : tie.Need-returns
 returns c =
-    let s = c .before .before .before .before .before .before .before .before in
+    let s = c .before .before .before .before .before .before .before .before .before in
     let query = query-of (plan-of (s .args .points) (s .args .sections .now) (s .args .turns .now)) (s .args .length) (s .args .start) (s .args .leave) (s .args .finish) (s .args .enter) in
     turned-away (plan-refused query (length (s .args .labels .now)) (c .before .before .before .check-and-index .ensures .0) (c .before .checked .given .1))
 

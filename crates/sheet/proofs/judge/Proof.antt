@@ -15,8 +15,8 @@ turn-table-requires c κs = let s = c .before .before .before .before in plan-tu
 
 check-over-steps-requires : tie.Need-check-over-steps-requires
 check-over-steps-requires c κs =
-    let s = c .before .before .before .before .before .before .before in
-    (s .pre .0, record { checked = tables-pass (query-asked (s .args .asked) (s .args .sections .now) (s .args .turns .now)) (length (s .args .labels .now)) (s .pre .0); slotted = s .pre .1; turned = c .before .before .turn-table .ensures })
+    let s = c .before .before .before .before .before .before in
+    (s .pre .0, record { checked = tables-pass (query-asked (s .args .asked) (s .args .sections .now) (s .args .turns .now)) (length (s .args .labels .now)) (s .pre .0); slotted = s .pre .1; turned = c .before .turn-table .ensures })
 
 enum-known-checked : tie.Need-enum-known-checked
 enum-known-checked c = search needs
@@ -25,10 +25,10 @@ enum-told : tie.Need-enum-told
 enum-told c = search needs
 
 accept-requires : tie.Need-accept-requires
-accept-requires c κs = (c .before .before .before .before .before .before .before .before .before .before .before .pre .0, c .before .before .before .before .before .before .turn-table .ensures, judged-passed (c .before .before .before .check-over-steps .ensures) (c .before .enum-told .given .1))
+accept-requires c κs = (c .before .before .before .before .before .before .before .before .before .before .pre .0, c .before .before .before .before .before .turn-table .ensures, judged-passed (c .before .before .before .check-over-steps .ensures) (c .before .enum-told .given .1))
 
 returns : tie.Need-returns
-returns c = judged-refused (c .before .before .before .before .before .before .before .before .before .before .before .pre .0) (c .before .before .before .check-over-steps .ensures) (c .before .checked .given .1)
+returns c = judged-refused (c .before .before .before .before .before .before .before .before .before .before .pre .0) (c .before .before .before .check-over-steps .ensures) (c .before .checked .given .1)
 
 returns-2 : tie.Need-returns-2
 returns-2 c = search needs
