@@ -2,6 +2,7 @@
 pub mod Sums
 pub mod Offers
 pub mod Lowering
+pub mod Linking
 pub mod TableNet
 pub mod TightNet
 pub mod Exactness

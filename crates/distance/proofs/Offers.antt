@@ -29,6 +29,11 @@ pub offer-read : (next cost labels : List ℕ) {k l r : ℕ} → k < length next
 unfolding offer
 offer-read next cost labels {k} h e q = rw (q, e, any-default next k 0 no-distance h) refl
 
+-- an offer as the worklist finds it: it knows to which arrival the step leads
+pub offer-known : (next cost labels : List ℕ) {k b r : ℕ} → k < length next → b < length labels → getD next k 0 ≡ b
+    → r ≡ min (getD cost k 0 + getD labels b 0) no-distance → r ≡ offer next cost labels k
+offer-known next cost labels {k} {b} h i e q = offer-read next cost labels h (rw e (any-default labels b 0 no-distance i)) q
+
 -- no offer is above "none"
 pub offer-low : (next cost labels : List ℕ) (k : ℕ) → offer next cost labels k ≤ no-distance
 unfolding offer

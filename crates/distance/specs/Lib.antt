@@ -3,3 +3,4 @@ pub mod Table
 pub mod Answer
 pub mod Labels
 pub mod Picked
+pub mod Queue

@@ -14,7 +14,7 @@ pub(crate) fn wide(x: u32) -> usize
 }
 
 // The sum of a cost and a label, or "none" where that is not below "none".
-fn plus(c: u32, l: u32) -> u32
+pub(crate) fn plus(c: u32, l: u32) -> u32
     ensures { λ r. ⌜ r ≡ min (c + l) no-distance ⌝ }
 {
     if l < NO_DISTANCE - c {

@@ -12,6 +12,7 @@
 // not made up so that labels fall again and again, an arrival is taken out a few times, and all is a small multiple of n. The first
 // sweep then finds nothing to lower, and costs n. Were it otherwise, the sweeps alone would end after n of them.
 mod label;
+mod queue;
 mod sweep;
 mod walk;
 mod worklist;

@@ -1,176 +1,213 @@
 // The worklist: labels fall from the ends backwards, step by step, so that the sweep that follows finds them settled. Nothing is
-// claimed of which arrivals wait, only that labels stay above what is offered: the sweep decides. So a place outside the table of
-// work is read as 0 and not written.
-ghost use Prim.Native.Nat.{_*_, _≤_, _<_};
+// claimed of which arrivals wait, only that labels stay above what is offered: the sweep decides.
+ghost use Prim.Native.Nat.{_+_, _*_, _≤_, _<_};
 ghost use lib.ListN.{length};
 ghost use Rattle.distance.specs.Labels.{Sizes, Kept, Passed, Begun};
-use crate::label::end_offer;
+ghost use Rattle.distance.specs.Queue.{Linked, Relinked, Ready};
 use crate::label::lower;
-use crate::label::offer;
+use crate::label::plus;
 use crate::label::wide;
+use crate::queue::ARRIVALS;
+use crate::queue::after;
+use crate::queue::empty_rings;
+use crate::queue::full_ring;
+use crate::queue::ring;
+use crate::queue::take;
+use crate::queue::wait;
 
-// The table of work. Places that lead to the same arrival form a chain: at FIRST stands for each arrival one more than the first such
-// place, at CHAIN for each place one more than the next. The queue is a ring of 2,048 arrivals; behind it stands which of them wait in
-// it, and its front and its back. Only where all 2,048 arrivals are ends is the ring ever full; it then looks empty, and is not needed.
-const CHAIN: usize = 0;
-
-const FIRST: usize = 4096;
-
-const RING: usize = 6144;
-
-const WAITS: usize = 8192;
-
-const FRONT: usize = 10240;
-
-const BACK: usize = 10241;
-
-// No arrival.
-const NO_ARRIVAL: u32 = 2048;
-
-fn peek(work: &[u32; 10242], at: usize) -> u32 {
-    if at < 10242 {
-        return work[at];
-    }
-    0
-}
-
-fn poke(work: &mut [u32; 10242], at: usize, x: u32) {
-    if at < 10242 {
-        work[at] = x;
-    }
-}
-
-// Puts place k at the head of the chain of the arrival b to which it leads.
-fn link(work: &mut [u32; 10242], k: u32, b: u32)
+// Notes for arrival b that the step at place k leads to it. For each arrival stand one more than the last such place in the lower half
+// of its number, and one more than the last but one in the upper half. No arrival of a plan has more; a place left out would only
+// leave the sweep more to do.
+fn link(leading: &mut [u32], k: usize, b: u32)
     requires { ⌜ k < 4096 ⌝ }
 {
-    if b < 2048 {
-        poke(work, CHAIN + wide(k), peek(work, FIRST + wide(b)));
-        poke(work, FIRST + wide(b), k + 1);
-    }
-}
-
-// The chains of the places of as many arrivals.
-fn link_all(next: &[u32], count: usize, work: &mut [u32; 10242])
-    requires { ⌜ (count ≤ 2048) × (2 * count ≤ length (now next)) ⌝ }
-{
-    let mut k: usize = 0;
-    while k < 2 * count {
-        link(work, k as u32, next[k]);
-        k += 1;
-    }
-}
-
-fn place_after(i: u32) -> u32 {
-    if i < 2047 {
-        return i + 1;
-    }
-    0
-}
-
-// Arrival a waits, if it does not yet.
-fn wait(work: &mut [u32; 10242], a: u32) {
-    if peek(work, WAITS + wide(a)) != 0 {
+    let at = wide(b);
+    if leading.len() <= at {
         return;
     }
-    let back = peek(work, BACK);
-    poke(work, WAITS + wide(a), 1);
-    poke(work, RING + wide(back), a);
-    poke(work, BACK, place_after(back));
+    leading[at] = leading[at] % 65536 * 65536 + (k as u32 + 1);
 }
 
-// Lowers the label of the arrival of place k to what its step offers; the arrival waits where its label falls.
-fn pass_place(next: &[u32], cost: &[u32], labels: &mut [u32], work: &mut [u32; 10242], k: u32)
-    requires { ⌜ (2 * length (now labels) ≤ length (now next)) × (2 * length (now labels) ≤ length (now cost)) ⌝ }
-    ensures { λ _. ⌜ Passed (now (next .entry)) (now (cost .entry)) (now (labels .entry)) (now (labels .exit)) ⌝ }
+// Gives arrival a, if a walk may end there, the room for its label; it waits where its label falls. 1 if it came to wait.
+fn begin_at(ends: &[u32], room: u32, labels: &mut [u32], links: &mut [u16], a: usize) -> u32
+    requires { ⌜ (a < length (now labels)) × (length (now labels) ≤ length (now ends)) × (258 + 2 * length (now labels) ≤ length (now links)) × Linked (now links) ⌝ }
+    ensures { λ r. ⌜ Begun (now (ends .entry)) room (now (labels .entry)) (now (labels .exit)) × Relinked (now (links .entry)) (now (links .exit)) × (r ≤ 1) ⌝ }
 {
-    let at = wide(k);
-    if labels.len() <= at / 2 {
-        return;
+    if ends[a] != 1 {
+        return 0;
     }
-    let v = offer(next, cost, labels, at);
-    if lower(labels, at / 2, v) != 0 {
-        wait(work, k / 2);
+    if lower(labels, a, room) == 0 {
+        return 0;
     }
+    wait(links, a, room)
 }
 
-// Passes the label of arrival b back over each step that leads to it. The count is for the proof that it ends.
-fn pass_back(next: &[u32], cost: &[u32], labels: &mut [u32], work: &mut [u32; 10242], b: u32)
-    requires { ⌜ (2 * length (now labels) ≤ length (now next)) × (2 * length (now labels) ≤ length (now cost)) ⌝ }
-    ensures { λ _. ⌜ Passed (now (next .entry)) (now (cost .entry)) (now (labels .entry)) (now (labels .exit)) ⌝ }
+// Notes all places, and gives the arrivals at which a walk may end their labels; how many came to wait.
+fn begin(
+    next: &[u32],
+    ends: &[u32],
+    room: u32,
+    labels: &mut [u32],
+    leading: &mut [u32],
+    links: &mut [u16],
+) -> u32
+    requires { ⌜ (length (now labels) ≤ 2048) × (2 * length (now labels) ≤ length (now next)) × (length (now labels) ≤ length (now ends)) × (258 + 2 * length (now labels) ≤ length (now links)) × Linked (now links) ⌝ }
+    ensures { λ r. ⌜ Begun (now (ends .entry)) room (now (labels .entry)) (now (labels .exit)) × Relinked (now (links .entry)) (now (links .exit)) × (r ≤ 2048) ⌝ }
 {
-    let mut link = peek(work, FIRST + wide(b));
-    let mut left: u32 = 4096;
-    while 0 < left {
-        if link == 0 {
-            return;
-        }
-        let k = link - 1;
-        pass_place(next, cost, labels, work, k);
-        link = peek(work, CHAIN + wide(k));
-        left -= 1;
-    }
-}
-
-// The arrival at the front of the queue waits no more; NO_ARRIVAL if none waits.
-fn next_waiting(work: &mut [u32; 10242]) -> u32 {
-    let front = peek(work, FRONT);
-    if front == peek(work, BACK) {
-        return NO_ARRIVAL;
-    }
-    let b = peek(work, RING + wide(front));
-    poke(work, FRONT, place_after(front));
-    poke(work, WAITS + wide(b), 0);
-    b
-}
-
-// Passes labels back from the arrivals that wait, until none does. The budget, which is no less than the square of the number of
-// arrivals, is for the proof that it ends.
-fn chase(next: &[u32], cost: &[u32], labels: &mut [u32], work: &mut [u32; 10242])
-    requires { ⌜ (2 * length (now labels) ≤ length (now next)) × (2 * length (now labels) ≤ length (now cost)) ⌝ }
-    ensures { λ _. ⌜ Passed (now (next .entry)) (now (cost .entry)) (now (labels .entry)) (now (labels .exit)) ⌝ }
-{
-    let mut budget: u32 = 4194304;
-    while 0 < budget {
-        let b = next_waiting(work);
-        if b == NO_ARRIVAL {
-            return;
-        }
-        pass_back(next, cost, labels, work, b);
-        budget -= 1;
-    }
-}
-
-// Gives arrival a, if a walk may end there, the room for its label; it waits where its label falls.
-fn begin_at(ends: &[u32], room: u32, labels: &mut [u32], work: &mut [u32; 10242], a: usize)
-    requires { ⌜ (a < length (now labels)) × (length (now labels) ≤ length (now ends)) × (length (now labels) ≤ 2048) ⌝ }
-    ensures { λ _. ⌜ Begun (now (ends .entry)) room (now (labels .entry)) (now (labels .exit)) ⌝ }
-{
-    let v = end_offer(ends, room, a);
-    if lower(labels, a, v) != 0 {
-        wait(work, a as u32);
-    }
-}
-
-// The arrivals at which a walk may end wait with the room for their label.
-fn begin(ends: &[u32], room: u32, labels: &mut [u32], work: &mut [u32; 10242])
-    requires { ⌜ (length (now labels) ≤ length (now ends)) × (length (now labels) ≤ 2048) ⌝ }
-    ensures { λ _. ⌜ Begun (now (ends .entry)) room (now (labels .entry)) (now (labels .exit)) ⌝ }
-{
+    let mut came: u32 = 0;
     let mut a: usize = 0;
     while a < labels.len() {
-        begin_at(ends, room, labels, work, a);
+        link(leading, 2 * a, next[2 * a]);
+        link(leading, 2 * a + 1, next[2 * a + 1]);
+        came += begin_at(ends, room, labels, links, a);
         a += 1;
+    }
+    came
+}
+
+// Lowers the label of an arrival that has a step to b to what that step offers; one more than its place is given, or 0. The arrival
+// waits where its label falls; 1 if it came to wait.
+fn pass_place(
+    next: &[u32],
+    cost: &[u32],
+    labels: &mut [u32],
+    links: &mut [u16],
+    b: usize,
+    noted: u32,
+) -> u32
+    requires { ⌜ (b < length (now labels)) × Ready (now next) (now cost) (now labels) (now links) ⌝ }
+    ensures { λ r. ⌜ Passed (now (next .entry)) (now (cost .entry)) (now (labels .entry)) (now (labels .exit)) × Relinked (now (links .entry)) (now (links .exit)) × (r ≤ 1) ⌝ }
+{
+    if noted == 0 {
+        return 0;
+    }
+    let k = wide(noted - 1);
+    if labels.len() <= k / 2 {
+        return 0;
+    }
+    if wide(next[k]) != b {
+        return 0;
+    }
+    let v = plus(cost[k], labels[b]);
+    if lower(labels, k / 2, v) == 0 {
+        return 0;
+    }
+    wait(links, k / 2, v)
+}
+
+// Passes the label of arrival b back over the steps that lead to it; how many arrivals came to wait.
+fn pass_back(
+    next: &[u32],
+    cost: &[u32],
+    labels: &mut [u32],
+    leading: &[u32],
+    links: &mut [u16],
+    b: usize,
+) -> u32
+    requires { ⌜ (b < length (now labels)) × (length (now labels) ≤ length (now leading)) × Ready (now next) (now cost) (now labels) (now links) ⌝ }
+    ensures { λ r. ⌜ Passed (now (next .entry)) (now (cost .entry)) (now (labels .entry)) (now (labels .exit)) × Relinked (now (links .entry)) (now (links .exit)) × (r ≤ 2) ⌝ }
+{
+    let places = leading[b];
+    let came = pass_place(next, cost, labels, links, b, places % 65536);
+    came + pass_place(next, cost, labels, links, b, places / 65536)
+}
+
+// Takes the first arrival out of a ring and passes its label back; how many arrivals came to wait.
+fn serve(
+    next: &[u32],
+    cost: &[u32],
+    labels: &mut [u32],
+    leading: &[u32],
+    links: &mut [u16],
+    head: usize,
+) -> u32
+    requires { ⌜ (head < 129) × (length (now labels) ≤ length (now leading)) × Ready (now next) (now cost) (now labels) (now links) ⌝ }
+    ensures { λ r. ⌜ Passed (now (next .entry)) (now (cost .entry)) (now (labels .entry)) (now (labels .exit)) × Relinked (now (links .entry)) (now (links .exit)) × (r ≤ 2) ⌝ }
+{
+    let x = after(links, head);
+    if x < ARRIVALS {
+        return 0;
+    }
+    let b = x - ARRIVALS;
+    if labels.len() <= b {
+        return 0;
+    }
+    take(links, head, x);
+    pass_back(next, cost, labels, leading, links, b)
+}
+
+// Passes labels back from the arrivals that wait, ring by ring, until as many were taken out as came. That it stops when the square
+// of the number of arrivals were taken out is for the proof that it ends.
+fn chase(
+    next: &[u32],
+    cost: &[u32],
+    labels: &mut [u32],
+    leading: &[u32],
+    links: &mut [u16],
+    first: usize,
+    begun: u32,
+)
+    requires { ⌜ (first < 129) × (begun ≤ 2048) × (length (now labels) ≤ length (now leading)) × Ready (now next) (now cost) (now labels) (now links) ⌝ }
+    ensures { λ _. ⌜ Passed (now (next .entry)) (now (cost .entry)) (now (labels .entry)) (now (labels .exit)) ⌝ }
+{
+    let mut head = first;
+    let mut came = begun;
+    let mut taken: u32 = 0;
+    while taken < 4194304 {
+        if taken == came {
+            return;
+        }
+        head = full_ring(links, head);
+        came += serve(next, cost, labels, leading, links, head);
+        taken += 1;
     }
 }
 
-// Labels as low as the worklist makes them.
+// Labels as low as the worklist makes them, with the tables that it is lent.
+fn run_with(
+    next: &[u32],
+    cost: &[u32],
+    ends: &[u32],
+    room: u32,
+    labels: &mut [u32],
+    leading: &mut [u32],
+    links: &mut [u16],
+)
+    requires { ⌜ Sizes (now next) (now cost) (now ends) (now labels) × (length (now labels) ≤ length (now leading)) × Ready (now next) (now cost) (now labels) (now links) ⌝ }
+    ensures { λ _. ⌜ Kept (now (next .entry)) (now (cost .entry)) (now (ends .entry)) room (now (labels .entry)) (now (labels .exit)) ⌝ }
+{
+    empty_rings(links);
+    let begun = begin(next, ends, room, labels, leading, links);
+    chase(next, cost, labels, leading, links, ring(room), begun);
+}
+
+// Labels as low as the worklist makes them, for at most 128 arrivals, or for any.
+fn run_small(next: &[u32], cost: &[u32], ends: &[u32], room: u32, labels: &mut [u32])
+    requires { ⌜ (length (now labels) ≤ 128) × Sizes (now next) (now cost) (now ends) (now labels) ⌝ }
+    ensures { λ _. ⌜ Kept (now (next .entry)) (now (cost .entry)) (now (ends .entry)) room (now (labels .entry)) (now (labels .exit)) ⌝ }
+{
+    let mut leading = [0; 128];
+    let mut links = [0; 514];
+    run_with(next, cost, ends, room, labels, &mut leading, &mut links);
+}
+
+fn run_large(next: &[u32], cost: &[u32], ends: &[u32], room: u32, labels: &mut [u32])
+    requires { ⌜ Sizes (now next) (now cost) (now ends) (now labels) ⌝ }
+    ensures { λ _. ⌜ Kept (now (next .entry)) (now (cost .entry)) (now (ends .entry)) room (now (labels .entry)) (now (labels .exit)) ⌝ }
+{
+    let mut leading = [0; 2048];
+    let mut links = [0; 4354];
+    run_with(next, cost, ends, room, labels, &mut leading, &mut links);
+}
+
+// Labels as low as the worklist makes them. The tables of a small plan are small, since clearing them takes time.
 pub(crate) fn run_down(next: &[u32], cost: &[u32], ends: &[u32], room: u32, labels: &mut [u32])
     requires { ⌜ Sizes (now next) (now cost) (now ends) (now labels) ⌝ }
     ensures { λ _. ⌜ Kept (now (next .entry)) (now (cost .entry)) (now (ends .entry)) room (now (labels .entry)) (now (labels .exit)) ⌝ }
 {
-    let mut work = [0; 10242];
-    link_all(next, labels.len(), &mut work);
-    begin(ends, room, labels, &mut work);
-    chase(next, cost, labels, &mut work);
+    if labels.len() <= 128 {
+        run_small(next, cost, ends, room, labels);
+    } else {
+        run_large(next, cost, ends, room, labels);
+    }
 }

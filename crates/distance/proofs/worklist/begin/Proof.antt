@@ -1,25 +1,67 @@
--- `worklist::begin` meets its contract. The loop's invariant: labels stay above what is offered. The measure is how many arrivals
--- are left.
+-- `worklist::begin` meets its contract. The loop's invariant: labels stay above what is offered, links lead to nodes, and no more came
+-- to wait than were looked at. The measure is how many arrivals are left.
 -- Assumes nothing.
-use Prim.Native.Nat.{_-_}
-use borrow.Author.Needs.{needs}
+use mathlib.Core.Path.{_≡_, refl}
+use Prim.Native.Nat.{_-_, _≤_}
 use lib.ListN.{length}
 use Rattle.distance.specs.Labels.{Begun}
+use Rattle.distance.specs.Queue.{Relinked}
 use Rattle.distance.proofs.Lowering.{begun-none, begun-more}
+use Rattle.distance.proofs.Linking.{relinked-none, relinked-more}
+use borrow.Author.Needs.{needs}
 use Rattle.distance.proofs.worklist.begin.Statement.{statement}
 use Rattle.distance.proofs.worklist.begin.Tie as tie
 
 abbrev Inv-loop : tie.InvT-loop
-Inv-loop ends room labels₀ work₀ a₀ labels work a = Begun ends room labels₀ labels
+Inv-loop next ends room labels₀ leading₀ links₀ came₀ a₀ labels leading links came a = Begun ends room labels₀ labels × Relinked links₀ links × (length leading ≡ length leading₀) × (came ≤ a) × (a ≤ length labels₀)
 
 abbrev μ-loop : tie.MeasureT-loop
-μ-loop ends room labels₀ work₀ a₀ labels work a = length labels₀ - a
+μ-loop next ends room labels₀ leading₀ links₀ came₀ a₀ labels leading links came a = length labels₀ - a
 
 loop-holds : tie.Need-loop-holds Inv-loop μ-loop
-loop-holds c = begun-none
+loop-holds c = (begun-none, relinked-none (search needs), refl, search needs, search needs)
+
+mul-link : tie.Need-mul-link Inv-loop μ-loop
+mul-link c = search needs
+
+mul-link-2 : tie.Need-mul-link-2 Inv-loop μ-loop
+mul-link-2 c = search needs
+
+mul-link-3 : tie.Need-mul-link-3 Inv-loop μ-loop
+mul-link-3 c = search needs
+
+shared-slice-read-link : tie.Need-shared-slice-read-link Inv-loop μ-loop
+shared-slice-read-link c = search needs
+
+link-requires : tie.Need-link-requires Inv-loop μ-loop
+link-requires c κs = search needs
+
+mul-link-4 : tie.Need-mul-link-4 Inv-loop μ-loop
+mul-link-4 c = search needs
+
+add-link : tie.Need-add-link Inv-loop μ-loop
+add-link c = search needs
+
+mul-link-5 : tie.Need-mul-link-5 Inv-loop μ-loop
+mul-link-5 c = search needs
+
+add-link-2 : tie.Need-add-link-2 Inv-loop μ-loop
+add-link-2 c = search needs
+
+mul-link-6 : tie.Need-mul-link-6 Inv-loop μ-loop
+mul-link-6 c = search needs
+
+shared-slice-read-link-2 : tie.Need-shared-slice-read-link-2 Inv-loop μ-loop
+shared-slice-read-link-2 c = search needs
+
+link-requires-2 : tie.Need-link-requires-2 Inv-loop μ-loop
+link-requires-2 c κs = search needs
 
 begin-at-requires : tie.Need-begin-at-requires Inv-loop μ-loop
 begin-at-requires c κs = search needs
+
+add-came : tie.Need-add-came Inv-loop μ-loop
+add-came c = search needs
 
 add-a : tie.Need-add-a Inv-loop μ-loop
 add-a c = search needs
@@ -29,15 +71,21 @@ loop-less c = search needs
 
 loop-again : tie.Need-loop-again Inv-loop μ-loop
 loop-again c =
-    let call = c .before .before in
-    let head = call .before .before .before .before in
-    begun-more (head .loop .inv) (call .begin-at .ensures)
+    let call = c .before .before .before .before in
+    let head = call .before .before .before .before .before .before .before .before .before .before .before .before .before .before .loop .inv in
+    (begun-more (head .0) (call .begin-at .ensures .0), relinked-more (head .1) (call .begin-at .ensures .1), search needs, search needs, search needs)
 
 same-length : tie.Need-same-length Inv-loop μ-loop
 same-length c = search needs
 
+same-length-2 : tie.Need-same-length-2 Inv-loop μ-loop
+same-length-2 c = search needs
+
+same-length-3 : tie.Need-same-length-3 Inv-loop μ-loop
+same-length-3 c = search needs
+
 returns : tie.Need-returns Inv-loop μ-loop
-returns c = c .before .loop .inv
+returns c = (c .before .loop .inv .0, c .before .loop .inv .1, search needs)
 
 pub begin-spec : {M : Type 1} → statement M
 begin-spec =
@@ -46,9 +94,24 @@ begin-spec =
     Inv-loop
     μ-loop
     loop-holds
+    mul-link
+    mul-link-2
+    mul-link-3
+    shared-slice-read-link
+    link-requires
+    mul-link-4
+    add-link
+    mul-link-5
+    add-link-2
+    mul-link-6
+    shared-slice-read-link-2
+    link-requires-2
     begin-at-requires
+    add-came
     add-a
     loop-less
     loop-again
     same-length
+    same-length-2
+    same-length-3
     returns)

@@ -1,49 +1,66 @@
--- `worklist::chase` meets its contract. The loop's invariant: labels stay above what is offered. The measure is the budget.
+-- `worklist::chase` meets its contract. The loop's invariant: labels stay above what is offered, links lead to nodes, and at most two
+-- came to wait for each that was taken out. The measure is how many more may be taken out.
 -- Assumes nothing.
-use borrow.Author.Needs.{needs}
+use Prim.Native.Nat.{_+_, _*_, _-_, _≤_, _<_}
 use Rattle.distance.specs.Labels.{Passed}
+use Rattle.distance.specs.Queue.{Relinked}
 use Rattle.distance.proofs.Lowering.{passed-none, passed-more}
+use Rattle.distance.proofs.Linking.{relinked-none, relinked-more, still-ready}
+use borrow.Author.Needs.{needs}
 use Rattle.distance.proofs.worklist.chase.Statement.{statement}
 use Rattle.distance.proofs.worklist.chase.Tie as tie
 
 abbrev Inv-loop : tie.InvT-loop
-Inv-loop next cost labels₀ work₀ budget₀ labels work budget = Passed next cost labels₀ labels
+Inv-loop next cost labels₀ leading links₀ first begun head₀ came₀ taken₀ labels links head came taken =
+    Passed next cost labels₀ labels × Relinked links₀ links × (head < 129) × (came ≤ 2048 + 2 * taken) × (taken ≤ 4194304)
 
 abbrev μ-loop : tie.MeasureT-loop
-μ-loop next cost labels₀ work₀ budget₀ labels work budget = budget
+μ-loop next cost labels₀ leading links₀ first begun head₀ came₀ taken₀ labels links head came taken = 4194304 - taken
 
 loop-holds : tie.Need-loop-holds Inv-loop μ-loop
-loop-holds c = passed-none
-
-next-waiting-requires : tie.Need-next-waiting-requires Inv-loop μ-loop
-next-waiting-requires c κs = search needs
+loop-holds c = (passed-none, relinked-none (search needs), search needs, search needs, search needs)
 
 same-length : tie.Need-same-length Inv-loop μ-loop
 same-length c = search needs
 
+same-length-2 : tie.Need-same-length-2 Inv-loop μ-loop
+same-length-2 c = search needs
+
 returns : tie.Need-returns Inv-loop μ-loop
-returns c = search needs
+returns c = c .before .before .loop .inv .0
 
-pass-back-requires : tie.Need-pass-back-requires Inv-loop μ-loop
-pass-back-requires c κs = search needs
+full-ring-requires : tie.Need-full-ring-requires Inv-loop μ-loop
+full-ring-requires c κs = search needs
 
-sub-budget : tie.Need-sub-budget Inv-loop μ-loop
-sub-budget c = search needs
+serve-requires : tie.Need-serve-requires Inv-loop μ-loop
+serve-requires c κs =
+    let inv = c .before .before .before .before .before .before .loop .inv in
+    let pre = c .before .before .before .before .before .before .before .before .before .before .before .before .pre in
+    (search needs, search needs, still-ready (inv .0 .size) (inv .1) (pre .3))
+
+add-came : tie.Need-add-came Inv-loop μ-loop
+add-came c = search needs
+
+add-taken : tie.Need-add-taken Inv-loop μ-loop
+add-taken c = search needs
 
 loop-less : tie.Need-loop-less Inv-loop μ-loop
 loop-less c = search needs
 
 loop-again : tie.Need-loop-again Inv-loop μ-loop
 loop-again c =
-    let call = c .before .before in
-    let head = call .before .before .before .before .before .before .before in
-    passed-more (head .loop .inv) (call .pass-back .ensures)
+    let call = c .before .before .before .before .serve .ensures in
+    let inv = c .before .before .before .before .before .before .before .before .before .before .before .loop .inv in
+    (passed-more (inv .0) (call .0), relinked-more (inv .1) (call .1), search needs, search needs, search needs)
 
-same-length-2 : tie.Need-same-length-2 Inv-loop μ-loop
-same-length-2 c = search needs
+same-length-3 : tie.Need-same-length-3 Inv-loop μ-loop
+same-length-3 c = search needs
+
+same-length-4 : tie.Need-same-length-4 Inv-loop μ-loop
+same-length-4 c = search needs
 
 returns-2 : tie.Need-returns-2 Inv-loop μ-loop
-returns-2 c = c .before .loop .inv
+returns-2 c = c .before .loop .inv .0
 
 pub chase-spec : {M : Type 1} → statement M
 chase-spec =
@@ -52,12 +69,15 @@ chase-spec =
     Inv-loop
     μ-loop
     loop-holds
-    next-waiting-requires
     same-length
+    same-length-2
     returns
-    pass-back-requires
-    sub-budget
+    full-ring-requires
+    serve-requires
+    add-came
+    add-taken
     loop-less
     loop-again
-    same-length-2
+    same-length-3
+    same-length-4
     returns-2)

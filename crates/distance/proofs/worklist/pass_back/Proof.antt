@@ -1,87 +1,51 @@
--- `worklist::pass_back` meets its contract. The loop's invariant: labels stay above what is offered. The measure is the count.
+-- `worklist::pass_back` meets its contract.
 -- Assumes nothing.
+use native.Mathlib.Omega.{arith}
+use Rattle.distance.proofs.Lowering.{passed-more}
+use Rattle.distance.proofs.Linking.{relinked-more, still-ready}
 use borrow.Author.Needs.{needs}
-use Rattle.distance.specs.Labels.{Passed}
-use Rattle.distance.proofs.Lowering.{passed-none, passed-more}
 use Rattle.distance.proofs.worklist.pass_back.Statement.{statement}
 use Rattle.distance.proofs.worklist.pass_back.Tie as tie
 
-abbrev Inv-loop : tie.InvT-loop
-Inv-loop next cost labels₀ work₀ b link₀ left₀ labels work link left = Passed next cost labels₀ labels
+mul-places : tie.Need-mul-places
+mul-places c = search needs
 
-abbrev μ-loop : tie.MeasureT-loop
-μ-loop next cost labels₀ work₀ b link₀ left₀ labels work link left = left
+shared-slice-read-places : tie.Need-shared-slice-read-places
+shared-slice-read-places c = search needs
 
-wide-requires : tie.Need-wide-requires Inv-loop μ-loop
-wide-requires c κs = search needs
-
-add-peek : tie.Need-add-peek Inv-loop μ-loop
-add-peek c = search needs
-
-peek-requires : tie.Need-peek-requires Inv-loop μ-loop
-peek-requires c κs = search needs
-
-loop-holds : tie.Need-loop-holds Inv-loop μ-loop
-loop-holds c = passed-none
-
-same-length : tie.Need-same-length Inv-loop μ-loop
-same-length c = search needs
-
-returns : tie.Need-returns Inv-loop μ-loop
-returns c = c .before .before .loop .inv
-
-sub-k : tie.Need-sub-k Inv-loop μ-loop
-sub-k c = search needs
-
-pass-place-requires : tie.Need-pass-place-requires Inv-loop μ-loop
+pass-place-requires : tie.Need-pass-place-requires
 pass-place-requires c κs = search needs
 
-wide-requires-2 : tie.Need-wide-requires-2 Inv-loop μ-loop
-wide-requires-2 c κs = search needs
+pass-place-requires-2 : tie.Need-pass-place-requires-2
+pass-place-requires-2 c κs =
+    let call = c .before .before .before .before .before .before .pass-place .ensures in
+    let pre = c .before .before .before .before .before .before .before .before .before .before .before .before .before .before .before .pre in
+    (omega (arith, call .0 .size), still-ready (call .0 .size) (call .1) (pre .2))
 
-add-peek-2 : tie.Need-add-peek-2 Inv-loop μ-loop
-add-peek-2 c = search needs
+add-result : tie.Need-add-result
+add-result c = search needs
 
-peek-requires-2 : tie.Need-peek-requires-2 Inv-loop μ-loop
-peek-requires-2 c κs = search needs
+same-length : tie.Need-same-length
+same-length c = search needs
 
-sub-left : tie.Need-sub-left Inv-loop μ-loop
-sub-left c = search needs
-
-loop-less : tie.Need-loop-less Inv-loop μ-loop
-loop-less c = search needs
-
-loop-again : tie.Need-loop-again Inv-loop μ-loop
-loop-again c =
-    let call = c .before .before .before .before .before in
-    let head = call .before .before .before .before .before in
-    passed-more (head .loop .inv) (call .pass-place .ensures)
-
-same-length-2 : tie.Need-same-length-2 Inv-loop μ-loop
+same-length-2 : tie.Need-same-length-2
 same-length-2 c = search needs
 
-returns-2 : tie.Need-returns-2 Inv-loop μ-loop
-returns-2 c = c .before .loop .inv
+returns : tie.Need-returns
+returns c =
+    let last = c .before .before .before .before .pass-place2 .ensures in
+    let call = c .before .before .before .before .before .before .before .before .before .before .before .pass-place .ensures in
+    (passed-more (call .0) (last .0), relinked-more (call .1) (last .1), omega (arith, call .2, last .2))
 
 pub pass-back-spec : {M : Type 1} → statement M
 pass-back-spec =
     tie.close
     (tie.spec
-    Inv-loop
-    μ-loop
-    wide-requires
-    add-peek
-    peek-requires
-    loop-holds
-    same-length
-    returns
-    sub-k
+    mul-places
+    shared-slice-read-places
     pass-place-requires
-    wide-requires-2
-    add-peek-2
-    peek-requires-2
-    sub-left
-    loop-less
-    loop-again
+    pass-place-requires-2
+    add-result
+    same-length
     same-length-2
-    returns-2)
+    returns)
