@@ -13,7 +13,7 @@ use lib.ListN.{length, getD, set, length-set}
 use lib.Seq.{getD-set-same, getD-set-other}
 use Rattle.rules.specs.Net.{no-distance}
 use Rattle.rules.proofs.Lists.{any-default}
-use Rattle.distance.specs.Labels.{offer, end-offer, best, sum, Blank, Above, Settled, Lowered, fell, stayed, Kept, Passed, Begun, Relaxed, Swept}
+use Rattle.distance.specs.Labels.{offer, end-offer, best, sum, Blank, Above, Settled, Lowered, fell, stayed, Kept, Passed, Begun, Relaxed, Swept, Still}
 use Rattle.distance.proofs.Sums.{sum-set}
 use Rattle.distance.proofs.Offers.{step-offered, end-offered, set-not-above, best-falls}
 
@@ -85,6 +85,19 @@ module _ {next cost ends : List ℕ} {room : ℕ} where
       → Settled next cost ends room m
   swept-settled A S z =
       record { settled = λ b h. omega (arith, S .still z b (omega (arith, S .kept .size)), S .kept .keeps A .above b h) }
+
+  pub still-none : {l : List ℕ} → Still next cost ends room l 0
+  still-none = record { still = λ a h. absurd (omega arith) }
+
+  pub still-more : {l : List ℕ} {a : ℕ} → Still next cost ends room l a → getD l a no-distance ≤ best next cost ends room l a
+      → Still next cost ends room l (a + 1)
+  still-more {l} {a} S p = record { still = below-more (λ b. getD l b no-distance ≤ best next cost ends room l b) a (S .still) p }
+
+  pub still-all : {l : List ℕ} {a b : ℕ} → b ≤ a → Still next cost ends room l a → Still next cost ends room l b
+  still-all p S = record { still = λ k h. S .still k (omega arith) }
+
+  pub still-settled : {l : List ℕ} → Above next cost ends room l → Still next cost ends room l (length l) → Settled next cost ends room l
+  still-settled A S = record { settled = λ b h. omega (arith, S .still b h, A .above b h) }
 
   -- "none" is above all that is offered
   pub blank-above : {l : List ℕ} → Blank (length l) l → Above next cost ends room l

@@ -54,6 +54,12 @@ pub end-offered : (next cost ends : List ℕ) (room : ℕ) (labels : List ℕ) (
 unfolding best
 end-offered next cost ends room labels a = omega arith
 
+-- and what is not above any of them is not above the best
+pub best-least : (next cost ends : List ℕ) (room : ℕ) (labels : List ℕ) (a v : ℕ) → v ≤ end-offer ends room a → v ≤ offer next cost labels (2 * a)
+    → v ≤ offer next cost labels (2 * a + 1) → v ≤ best next cost ends room labels a
+unfolding best
+best-least next cost ends room labels a v p q r = omega arith
+
 -- no label of m is above that of l
 abbrev pub NotAbove : List ℕ → List ℕ → Type 0
 NotAbove m l = (b : ℕ) → getD m b no-distance ≤ getD l b no-distance

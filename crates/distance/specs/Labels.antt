@@ -45,6 +45,10 @@ pub record Above (next cost ends : List ℕ) (room : ℕ) (labels : List ℕ) : 
 pub record Settled (next cost ends : List ℕ) (room : ℕ) (labels : List ℕ) : Type 0 where
   pub settled : (a : ℕ) → a < length labels → getD labels a no-distance ≡ best next cost ends room labels a
 
+-- the labels of the arrivals below n are no more than what is offered
+pub record Still (next cost ends : List ℕ) (room : ℕ) (labels : List ℕ) (n : ℕ) : Type 0 where
+  pub still : (a : ℕ) → a < n → getD labels a no-distance ≤ best next cost ends room labels a
+
 -- the label of a became v where v is less: r is then 1, and else 0
 pub data Lowered (before after : List ℕ) (a v r : ℕ) : Type 0 where
   fell : r ≡ 1 → v < getD before a no-distance → after ≡ set before a v → Lowered before after a v r

@@ -86,27 +86,27 @@ fn append(links: &mut [u16], head: usize, x: usize)
     join(links, x, head);
 }
 
-// Takes the node x out of the ring in which it is; 1 if it is in none.
-fn leave(links: &mut [u16], x: usize) -> u32
-    requires { ⌜ Linked (now links) × (2 * x + 1 < length (now links)) ⌝ }
-    ensures { λ r. ⌜ Relinked (now (links .entry)) (now (links .exit)) × (r ≤ 1) ⌝ }
+// Takes the node x out of the ring in which it is; what is counted, with one more if it is in none.
+fn leave(links: &mut [u16], x: usize, counted: u32) -> u32
+    requires { ⌜ Linked (now links) × (2 * x + 1 < length (now links)) × (counted < 4294967295) ⌝ }
+    ensures { λ r. ⌜ Relinked (now (links .entry)) (now (links .exit)) × (r ≤ counted + 1) ⌝ }
 {
     let last = before(links, x);
     if last == 0 {
-        return 1;
+        return counted + 1;
     }
     let rest = after(links, x);
     join(links, last, rest);
-    0
+    counted
 }
 
-// Arrival a, whose label has fallen to this, waits in its ring and in no other; 1 if it waited in none.
-pub(crate) fn wait(links: &mut [u16], a: usize, label: u32) -> u32
-    requires { ⌜ Linked (now links) × (258 + 2 * a + 1 < length (now links)) ⌝ }
-    ensures { λ r. ⌜ Relinked (now (links .entry)) (now (links .exit)) × (r ≤ 1) ⌝ }
+// Arrival a, whose label has fallen to this, waits in its ring and in no other; what is counted, with one more if it waited in none.
+pub(crate) fn wait(links: &mut [u16], a: usize, label: u32, counted: u32) -> u32
+    requires { ⌜ Linked (now links) × (258 + 2 * a + 1 < length (now links)) × (counted < 4294967295) ⌝ }
+    ensures { λ r. ⌜ Relinked (now (links .entry)) (now (links .exit)) × (r ≤ counted + 1) ⌝ }
 {
     let x = ARRIVALS + a;
-    let came = leave(links, x);
+    let came = leave(links, x, counted);
     append(links, ring(label), x);
     came
 }

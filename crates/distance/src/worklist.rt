@@ -28,18 +28,26 @@ fn link(leading: &mut [u32], k: usize, b: u32)
     leading[at] = leading[at] % 65536 * 65536 + (k as u32 + 1);
 }
 
-// Gives arrival a, if a walk may end there, the room for its label; it waits where its label falls. 1 if it came to wait.
-fn begin_at(ends: &[u32], room: u32, labels: &mut [u32], links: &mut [u16], a: usize) -> u32
-    requires { ⌜ (a < length (now labels)) × (length (now labels) ≤ length (now ends)) × (258 + 2 * length (now labels) ≤ length (now links)) × Linked (now links) ⌝ }
-    ensures { λ r. ⌜ Begun (now (ends .entry)) room (now (labels .entry)) (now (labels .exit)) × Relinked (now (links .entry)) (now (links .exit)) × (r ≤ 1) ⌝ }
+// Gives arrival a, if a walk may end there, the room for its label; it waits where its label falls. The answer is how many have come to
+// wait, where it was as many as counted.
+fn begin_at(
+    ends: &[u32],
+    room: u32,
+    labels: &mut [u32],
+    links: &mut [u16],
+    a: usize,
+    counted: u32,
+) -> u32
+    requires { ⌜ (a < length (now labels)) × (length (now labels) ≤ length (now ends)) × (258 + 2 * length (now labels) ≤ length (now links)) × Linked (now links) × (counted < 4294967295) ⌝ }
+    ensures { λ r. ⌜ Begun (now (ends .entry)) room (now (labels .entry)) (now (labels .exit)) × Relinked (now (links .entry)) (now (links .exit)) × (r ≤ counted + 1) ⌝ }
 {
     if ends[a] != 1 {
-        return 0;
+        return counted;
     }
     if lower(labels, a, room) == 0 {
-        return 0;
+        return counted;
     }
-    wait(links, a, room)
+    wait(links, a, room, counted)
 }
 
 // Notes all places, and gives the arrivals at which a walk may end their labels; how many came to wait.
@@ -59,14 +67,14 @@ fn begin(
     while a < labels.len() {
         link(leading, 2 * a, next[2 * a]);
         link(leading, 2 * a + 1, next[2 * a + 1]);
-        came += begin_at(ends, room, labels, links, a);
+        came = begin_at(ends, room, labels, links, a, came);
         a += 1;
     }
     came
 }
 
 // Lowers the label of an arrival that has a step to b to what that step offers; one more than its place is given, or 0. The arrival
-// waits where its label falls; 1 if it came to wait.
+// waits where its label falls. The answer is how many have come to wait, where it was as many as counted.
 fn pass_place(
     next: &[u32],
     cost: &[u32],
@@ -74,28 +82,30 @@ fn pass_place(
     links: &mut [u16],
     b: usize,
     noted: u32,
+    counted: u32,
 ) -> u32
-    requires { ⌜ (b < length (now labels)) × Ready (now next) (now cost) (now labels) (now links) ⌝ }
-    ensures { λ r. ⌜ Passed (now (next .entry)) (now (cost .entry)) (now (labels .entry)) (now (labels .exit)) × Relinked (now (links .entry)) (now (links .exit)) × (r ≤ 1) ⌝ }
+    requires { ⌜ (b < length (now labels)) × Ready (now next) (now cost) (now labels) (now links) × (counted < 4294967295) ⌝ }
+    ensures { λ r. ⌜ Passed (now (next .entry)) (now (cost .entry)) (now (labels .entry)) (now (labels .exit)) × Relinked (now (links .entry)) (now (links .exit)) × (r ≤ counted + 1) ⌝ }
 {
     if noted == 0 {
-        return 0;
+        return counted;
     }
     let k = wide(noted - 1);
     if labels.len() <= k / 2 {
-        return 0;
+        return counted;
     }
     if wide(next[k]) != b {
-        return 0;
+        return counted;
     }
     let v = plus(cost[k], labels[b]);
     if lower(labels, k / 2, v) == 0 {
-        return 0;
+        return counted;
     }
-    wait(links, k / 2, v)
+    wait(links, k / 2, v, counted)
 }
 
-// Passes the label of arrival b back over the steps that lead to it; how many arrivals came to wait.
+// Passes the label of arrival b back over the steps that lead to it. The answer is how many arrivals have come to wait, where it was
+// as many as counted.
 fn pass_back(
     next: &[u32],
     cost: &[u32],
@@ -103,16 +113,18 @@ fn pass_back(
     leading: &[u32],
     links: &mut [u16],
     b: usize,
+    counted: u32,
 ) -> u32
-    requires { ⌜ (b < length (now labels)) × (length (now labels) ≤ length (now leading)) × Ready (now next) (now cost) (now labels) (now links) ⌝ }
-    ensures { λ r. ⌜ Passed (now (next .entry)) (now (cost .entry)) (now (labels .entry)) (now (labels .exit)) × Relinked (now (links .entry)) (now (links .exit)) × (r ≤ 2) ⌝ }
+    requires { ⌜ (b < length (now labels)) × (length (now labels) ≤ length (now leading)) × Ready (now next) (now cost) (now labels) (now links) × (counted + 1 < 4294967295) ⌝ }
+    ensures { λ r. ⌜ Passed (now (next .entry)) (now (cost .entry)) (now (labels .entry)) (now (labels .exit)) × Relinked (now (links .entry)) (now (links .exit)) × (r ≤ counted + 2) ⌝ }
 {
     let places = leading[b];
-    let came = pass_place(next, cost, labels, links, b, places % 65536);
-    came + pass_place(next, cost, labels, links, b, places / 65536)
+    let came = pass_place(next, cost, labels, links, b, places % 65536, counted);
+    pass_place(next, cost, labels, links, b, places / 65536, came)
 }
 
-// Takes the first arrival out of a ring and passes its label back; how many arrivals came to wait.
+// Takes the first arrival out of a ring and passes its label back. The answer is how many arrivals have come to wait, where it was as
+// many as counted.
 fn serve(
     next: &[u32],
     cost: &[u32],
@@ -120,20 +132,21 @@ fn serve(
     leading: &[u32],
     links: &mut [u16],
     head: usize,
+    counted: u32,
 ) -> u32
-    requires { ⌜ (head < 129) × (length (now labels) ≤ length (now leading)) × Ready (now next) (now cost) (now labels) (now links) ⌝ }
-    ensures { λ r. ⌜ Passed (now (next .entry)) (now (cost .entry)) (now (labels .entry)) (now (labels .exit)) × Relinked (now (links .entry)) (now (links .exit)) × (r ≤ 2) ⌝ }
+    requires { ⌜ (head < 129) × (length (now labels) ≤ length (now leading)) × Ready (now next) (now cost) (now labels) (now links) × (counted + 1 < 4294967295) ⌝ }
+    ensures { λ r. ⌜ Passed (now (next .entry)) (now (cost .entry)) (now (labels .entry)) (now (labels .exit)) × Relinked (now (links .entry)) (now (links .exit)) × (r ≤ counted + 2) ⌝ }
 {
     let x = after(links, head);
     if x < ARRIVALS {
-        return 0;
+        return counted;
     }
     let b = x - ARRIVALS;
     if labels.len() <= b {
-        return 0;
+        return counted;
     }
     take(links, head, x);
-    pass_back(next, cost, labels, leading, links, b)
+    pass_back(next, cost, labels, leading, links, b, counted)
 }
 
 // Passes labels back from the arrivals that wait, ring by ring, until as many were taken out as came. That it stops when the square
@@ -158,7 +171,7 @@ fn chase(
             return;
         }
         head = full_ring(links, head);
-        came += serve(next, cost, labels, leading, links, head);
+        came = serve(next, cost, labels, leading, links, head, came);
         taken += 1;
     }
 }

@@ -58,10 +58,7 @@ link-requires-2 : tie.Need-link-requires-2 Inv-loop μ-loop
 link-requires-2 c κs = search needs
 
 begin-at-requires : tie.Need-begin-at-requires Inv-loop μ-loop
-begin-at-requires c κs = search needs
-
-add-came : tie.Need-add-came Inv-loop μ-loop
-add-came c = search needs
+begin-at-requires c κs = (search needs, search needs, search needs, c .before .before .before .before .before .before .before .before .before .before .before .before .before .loop .inv .1 .linked, search needs)
 
 add-a : tie.Need-add-a Inv-loop μ-loop
 add-a c = search needs
@@ -107,7 +104,6 @@ begin-spec =
     shared-slice-read-link-2
     link-requires-2
     begin-at-requires
-    add-came
     add-a
     loop-less
     loop-again

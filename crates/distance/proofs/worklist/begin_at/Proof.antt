@@ -27,7 +27,7 @@ returns-2 : tie.Need-returns-2
 returns-2 c = (begun (search needs) (sym (ends-here _ _ _ (search needs))) (c .before .before .before .lower .ensures), relinked-none (search needs), search needs)
 
 wait-requires : tie.Need-wait-requires
-wait-requires c κs = search needs
+wait-requires c κs = (search needs, search needs, search needs)
 
 same-length-2 : tie.Need-same-length-2
 same-length-2 c = search needs

@@ -36,10 +36,7 @@ serve-requires : tie.Need-serve-requires Inv-loop μ-loop
 serve-requires c κs =
     let inv = c .before .before .before .before .before .before .loop .inv in
     let pre = c .before .before .before .before .before .before .before .before .before .before .before .before .pre in
-    (search needs, search needs, still-ready (inv .0 .size) (inv .1) (pre .3))
-
-add-came : tie.Need-add-came Inv-loop μ-loop
-add-came c = search needs
+    (search needs, search needs, still-ready (inv .0 .size) (inv .1) (pre .3), search needs)
 
 add-taken : tie.Need-add-taken Inv-loop μ-loop
 add-taken c = search needs
@@ -74,7 +71,6 @@ chase-spec =
     returns
     full-ring-requires
     serve-requires
-    add-came
     add-taken
     loop-less
     loop-again

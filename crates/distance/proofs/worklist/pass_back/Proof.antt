@@ -20,10 +20,7 @@ pass-place-requires-2 : tie.Need-pass-place-requires-2
 pass-place-requires-2 c κs =
     let call = c .before .before .before .before .before .before .pass-place .ensures in
     let pre = c .before .before .before .before .before .before .before .before .before .before .before .before .before .before .before .pre in
-    (omega (arith, call .0 .size), still-ready (call .0 .size) (call .1) (pre .2))
-
-add-result : tie.Need-add-result
-add-result c = search needs
+    (omega (arith, call .0 .size), still-ready (call .0 .size) (call .1) (pre .2), omega (arith, call .2))
 
 same-length : tie.Need-same-length
 same-length c = search needs
@@ -45,7 +42,6 @@ pass-back-spec =
     shared-slice-read-places
     pass-place-requires
     pass-place-requires-2
-    add-result
     same-length
     same-length-2
     returns)

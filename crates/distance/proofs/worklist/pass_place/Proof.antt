@@ -56,7 +56,7 @@ returns-4 : tie.Need-returns-4
 returns-4 c = (passed _ (search needs) (offer-known _ _ _ (search needs) (search needs) (search needs) (c .before .before .before .before .before .plus .ensures)) (c .before .before .before .lower .ensures), relinked-none (search needs), search needs)
 
 wait-requires : tie.Need-wait-requires
-wait-requires c κs = (search needs, search needs)
+wait-requires c κs = (search needs, search needs, search needs)
 
 same-length-2 : tie.Need-same-length-2
 same-length-2 c = search needs

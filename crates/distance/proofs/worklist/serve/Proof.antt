@@ -25,7 +25,7 @@ take-requires : tie.Need-take-requires
 take-requires c κs = search needs
 
 pass-back-requires : tie.Need-pass-back-requires
-pass-back-requires c κs = (search needs, search needs, still-ready refl (c .before .before .before .before .take .ensures) (c .before .before .before .before .before .before .before .before .before .before .before .before .before .before .before .pre .2))
+pass-back-requires c κs = (search needs, search needs, still-ready refl (c .before .before .before .before .take .ensures) (c .before .before .before .before .before .before .before .before .before .before .before .before .before .before .before .pre .2), search needs)
 
 same-length-3 : tie.Need-same-length-3
 same-length-3 c = search needs
