@@ -2,19 +2,21 @@
 -- Assumes nothing.
 use mathlib.Core.Path.{_≡_, _∙_}
 use mathlib.Core.Logic.{_≢_}
-use mathlib.Core.List.{List}
+use mathlib.Core.List.{List, [], _∷_}
 use Prim.Native.Nat.{ℕ, _≤_, _<_}
 use native.Mathlib.Omega.{arith}
 use lib.ListN.{length, getD, drop, length-append}
 use lib.Seq.{take-append-seam}
-use Rattle.rules.specs.Plan.{arrivals}
+use Rattle.rules.specs.Plan.{section-count, arrivals}
 use Rattle.rules.specs.Query.{Query, start-arrival, finish-room}
-use Rattle.rules.specs.Net.{no-distance, Net}
+use Rattle.rules.specs.Net.{no-distance, Net, here, onward, NoWalk, no-walk}
+use Rattle.rules.specs.Trip.{Finish, trip-of}
 use Rattle.rules.proofs.Alike.{Within, same-remaining, same-first}
 use Rattle.rules.proofs.Sound.{Sound}
 use Rattle.rules.proofs.Trips.{sound-trip}
 use Rattle.rules.proofs.Lists.{any-default}
 use Rattle.distance.specs.Table.{table-net, Table}
+use Rattle.distance.specs.Labels.{Blank}
 use Rattle.distance.specs.Answer.{Labels, Written}
 use Rattle.steps.specs.Listing.{Listing}
 use Rattle.search.specs.Solved.{Known, SolvedOver, Solved}
@@ -50,6 +52,21 @@ solved-alike to back s = record {
   known = record { long = s .known .long; right = λ b l. same-remaining to back (s .known .right b l) };
   chosen = record { fits = s .chosen .fits; first = λ v. same-first to back (s .chosen .first v) };
 }
+
+-- where no walk can end, there is none
+nowhere : {N : Net} → ((a : ℕ) → N .Finish a → ⊥) → (a : ℕ) → NoWalk N a
+nowhere none a [] (here f) = none a f
+nowhere none a (b ∷ bs) (onward s w) = nowhere none b bs w
+
+pub nothing-solved : {q : Query} → Sound q → ((a : ℕ) → Finish (trip-of q) a → ⊥) → {labels walk : List ℕ} → 2048 ≤ length labels → Blank 2048 labels
+    → Solved q labels walk 0
+nothing-solved {q} S none long blank = record {
+  known = record { long = omega (arith, few); right = λ a l. no-walk (blank .none a (omega (arith, few))) (nowhere none a) };
+  chosen = let first = blank .none (start-arrival q) (omega (arith, few, S .start)) in record { fits = λ v. absurd (omega arith); first = λ v. absurd (omega arith) };
+}
+  where
+    few : section-count (q .plan) ≤ 1024
+    few = S .plan .few-sections .1
 
 module _ {q : Query} (S : Sound q) {next cost ends : List ℕ} (L : Listing q next cost ends) where
   -- the table is fit for distances over it

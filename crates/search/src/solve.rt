@@ -9,6 +9,7 @@ ghost use Rattle.search.specs.Solved.{SolvedOver, Solvable, Solved};
 use distance::first_walk;
 use distance::remaining;
 use rules::NO_DISTANCE;
+use steps::ends::has_end;
 use steps::listing::list_steps;
 use train::Asked;
 use train::place::start_arrival;
@@ -124,7 +125,7 @@ fn solve_large(
     )
 }
 
-// All labels and the walk of what is asked; the answer is how many steps the walk has.
+// All labels and the walk of what is asked; the answer is how many steps the walk has. Where no walk can end, every label stays "none".
 pub fn solve(
     sections: &[u32],
     turns: &[u32],
@@ -137,6 +138,9 @@ pub fn solve(
     requires { ⌜ Solvable (query-asked asked (now sections) (now turns)) (now slots) (now table) (now known) (now walk) ⌝ }
     ensures { λ r. ⌜ Solved (query-asked asked (now (sections .entry)) (now (turns .entry))) (now (known .exit)) (now (walk .exit)) r ⌝ }
 {
+    if !has_end(sections, slots, asked.finish, asked.enter) {
+        return 0;
+    }
     if sections.len() / 6 <= 64 {
         return solve_small(sections, turns, slots, table, asked, known, walk);
     }

@@ -6,5 +6,6 @@ pub mod TwoOthers
 pub mod Rows
 pub mod Filling
 pub mod Marking
+pub mod NoEnds
 pub mod Serving
 pub mod Reversing
