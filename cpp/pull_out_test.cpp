@@ -4,6 +4,7 @@
 #include "guard.h"
 #include "plan.h"
 #include "random_plans.h"
+#include "refusal_cases.h"
 #include "second_pull_out.h"
 #include <cstdio>
 #include <functional>
@@ -25,7 +26,7 @@ Answer call(const Plan &plan, const Question &question, const List &buffer) {
     const finder_pull pull =
         finder_pull_out(plan.points, sections.data(), sections.size(), turns.data(), turns.size(), question.length,
                         question.arrival, question.section, list.data(), list.size());
-    return {pull.refusal, pull.place, pull.count, List(list.data(), list.data() + list.size())};
+    return {pull.refusal, pull.place, pull.count, list.held()};
 }
 
 bool same(const Answer &a, const Answer &b) {
@@ -46,30 +47,26 @@ void expect(const std::string &what, const Answer &got, const Answer &expected) 
     print("got", got);
 }
 
-// What a list holds before the call.
-List filled(size_t entries) {
-    List buffer(entries);
-    for (size_t i = 0; i < entries; i++) buffer[i] = static_cast<uint32_t>(1000000 + i);
-    return buffer;
-}
+// What a list holds before the call: no section has these numbers.
+List list_of(size_t entries) { return filled(entries, 1000000); }
 
 // A refusal leaves lists of all lengths as they were.
 void refuses(const std::string &what, const Plan &plan, const Question &question, uint32_t number, uint32_t place = 0) {
     for (size_t entries : {0, 1, 768, 1025})
-        expect(what, call(plan, question, filled(entries)), {number, place, 0, filled(entries)});
+        expect(what, call(plan, question, list_of(entries)), {number, place, 0, list_of(entries)});
 }
 
 // The sections go into the front of a list that is long enough, and the rest of it is kept; a shorter one is left as it was.
 void finds(const std::string &what, const Plan &plan, const Question &question, const List &sections) {
     const auto count = static_cast<uint32_t>(sections.size());
     for (uint32_t entries : {count, count + 1, count + 500}) {
-        List after = filled(entries);
+        List after = list_of(entries);
         std::copy(sections.begin(), sections.end(), after.begin());
-        expect(what, call(plan, question, filled(entries)), {0, 0, count, after});
+        expect(what, call(plan, question, list_of(entries)), {0, 0, count, after});
     }
     for (uint32_t entries : {0u, 1u, count - 1})
         if (entries < count)
-            expect(what + ", too short a list", call(plan, question, filled(entries)), {14, 0, 0, filled(entries)});
+            expect(what + ", too short a list", call(plan, question, list_of(entries)), {14, 0, 0, list_of(entries)});
 }
 
 // L is the most that a pull-out takes, over these sections, for a reversal from c to s or from s to c at end A of both.
@@ -81,12 +78,6 @@ void finds_up_to(const std::string &what, const Plan &plan, uint32_t length, uin
     refuses(what + ", one more, the other way", plan, {length + 1, 2 * s, c}, 16);
 }
 
-const Plan loop{4,
-                {0, 1, 300, 1, 300, 300, //
-                 0, 3, 100, 0, 100, 100, //
-                 0, 2, 200, 0, 200, 200, //
-                 1, 2, 300, 1, 300, 300},
-                {1, 2}};
 const Question loop_asked{600, 2, 2};
 
 // Point 0 with section 0 (c) to point 1 and section 1 (s) to point 2, and a forbidden turn between them. What is joined to
@@ -258,42 +249,23 @@ void order() {
     Plan plan = loop;
     Question question = loop_asked;
     finds("nothing wrong", plan, question, {0, 3});
-    expect("14", call(plan, question, filled(1)), {14, 0, 0, filled(1)});
+    expect("14", call(plan, question, list_of(1)), {14, 0, 0, list_of(1)});
     question.length = 601;
-    expect("16 before 14", call(plan, question, filled(1)), {16, 0, 0, filled(1)});
+    expect("16 before 14", call(plan, question, list_of(1)), {16, 0, 0, list_of(1)});
     question.section = 3;
     refuses("15 before 16", plan, question, 15);
     question.length = 20001;
     refuses("7 before 15", plan, question, 7);
     question.length = 0;
     refuses("7 before 15, 0", plan, question, 7);
-    plan.forbid(2, 1);
-    refuses("6 before 7", plan, question, 6, 1);
-    plan.forbid(1, 1);
-    refuses("5 before 6", plan, question, 5, 2);
-    plan.points = 5;
-    refuses("4 before 5", plan, question, 4, 4);
-    plan.join(2, 1, 50);
-    refuses("3 before 4", plan, question, 3, 4);
-    plan.occupy(3, 300, 0);
-    refuses("2 before 3", plan, question, 2, 3);
-    plan.turns.push_back(0);
-    refuses("1 before 2", plan, question, 1);
+    for (const FaultyPlan &fault : added_plan_faults(plan))
+        refuses(fault.what, fault.plan, question, fault.number, fault.place);
 }
 
 // Each fault of the plan alone.
 void damaged() {
-    const auto with = [](const std::function<void(Plan &)> &fault) {
-        Plan plan = loop;
-        fault(plan);
-        return plan;
-    };
-    refuses("a section cut short", with([](Plan &plan) { plan.sections.pop_back(); }), loop_asked, 1);
-    refuses("free from one end only", with([](Plan &plan) { plan.occupy(3, 300, 0); }), loop_asked, 2, 3);
-    refuses("the ends of section 3 again", with([](Plan &plan) { plan.join(2, 1, 50); }), loop_asked, 3, 4);
-    refuses("a point without a section", with([](Plan &plan) { plan.points = 5; }), loop_asked, 4, 4);
-    refuses("a turn onto a destination", with([](Plan &plan) { plan.forbid(1, 3); }), loop_asked, 5, 1);
-    refuses("the turn again", with([](Plan &plan) { plan.forbid(2, 1); }), loop_asked, 6, 1);
+    for (const FaultyPlan &fault : plan_faults(loop))
+        refuses(fault.what, fault.plan, loop_asked, fault.number, fault.place);
 }
 
 // A null pointer goes with 0 entries.
@@ -317,7 +289,7 @@ struct Met {
 };
 
 void compare(uint32_t seed, Draw &draw, const Plan &plan, const Question &question, Met &met) {
-    const List buffer = filled(draw.one_in(3) ? draw.below(3) : plan.count() + draw.below(3));
+    const List buffer = list_of(draw.one_in(3) ? draw.below(3) : plan.count() + draw.below(3));
     const Answer expected = second::pull_out(plan, question, buffer);
     expect("the second program, seed " + std::to_string(seed), call(plan, question, buffer), expected);
     met.refusals[expected.refusal]++;

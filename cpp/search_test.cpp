@@ -6,6 +6,7 @@
 #include "paper_yard.h"
 #include "plan.h"
 #include "random_queries.h"
+#include "refusal_cases.h"
 #include "second_search.h"
 #include <cstdio>
 #include <map>
@@ -28,8 +29,7 @@ SearchAnswer call(const Plan &plan, const Query &query, const List &route, const
     const finder_answer a = finder_search(plan.points, sections.data(), sections.size(), turns.data(), turns.size(),
                                           query.length, query.start, query.start_end, query.finish, query.finish_end,
                                           lent_route.data(), lent_route.size(), lent_labels.data(), lent_labels.size());
-    const auto held = [](Guarded &buffer) { return List(buffer.data(), buffer.data() + buffer.size()); };
-    return {a.refusal, a.place, a.total, a.reversals, a.steps, held(lent_route), held(lent_labels)};
+    return {a.refusal, a.place, a.total, a.reversals, a.steps, lent_route.held(), lent_labels.held()};
 }
 
 void print(const char *name, const SearchAnswer &answer) {
@@ -54,12 +54,7 @@ void expect(const std::string &what, const SearchAnswer &got, const SearchAnswer
     print("got", got);
 }
 
-// What the buffers hold before the call; no number of it is an arrival or a label.
-List filled(size_t entries, uint32_t from) {
-    List buffer(entries);
-    for (size_t i = 0; i < entries; i++) buffer[i] = static_cast<uint32_t>(from + i);
-    return buffer;
-}
+// What the buffers hold before the call: no number of it is an arrival or a label.
 List route_of(size_t entries) { return filled(entries, 3000000000u); }
 List labels_of(size_t entries) { return filled(entries, 4000000000u); }
 
@@ -120,7 +115,6 @@ void finds(const std::string &what, const Plan &plan, const Query &query, const 
     finds(what, plan, query, walk, answer.labels);
 }
 
-const Query asked{600, 3, 0, 4, 0};
 const List no_labels(10, none);
 
 void yard_y_cases() {
@@ -131,10 +125,6 @@ void yard_y_cases() {
     no_walk("section 0 with 599 free from B", spur(599), asked);
     const auto room = [](uint32_t from_a) { return with(yard_y, [=](Plan &plan) { plan.occupy(4, from_a, 0); }); };
     finds("section 4 with 600 free from A", room(600), asked, {2200, 1, {2, 5}});
-    refuses("section 4 with 599 free from A", room(599), asked, 10);
-    refuses("L = 601", yard_y, {601, 3, 0, 4, 0}, 8);
-    for (uint32_t length : {0u, 20001u, 4294967295u}) refuses("L out of range", yard_y, {length, 3, 0, 4, 0}, 7);
-    refuses("the finish is the start", yard_y, {600, 3, 0, 3, 0}, 9);
     no_walk("the finish is the start's other end", yard_y, {600, 3, 0, 3, 1});
     no_walk("all labels are none", yard_y, {600, 3, 0, 3, 1}, no_labels);
     no_walk("leaving by the end where nothing goes on", yard_y, {600, 3, 1, 4, 0});
@@ -388,12 +378,6 @@ void ties() {
 }
 
 void starts() {
-    for (uint32_t section : {5u, 6u, 1024u, 2147483651u, 4294967295u})
-        refuses("start section out of range", yard_y, {600, section, 0, 4, 0}, 8);
-    for (uint32_t end : {2u, 3u, 4294967295u}) refuses("start end out of range", yard_y, {600, 3, end, 4, 0}, 8);
-    for (uint32_t section : {0u, 1u, 4u}) refuses("a free start section", yard_y, {1, section, 0, 3, 1}, 8);
-    const Plan connecting = with(yard_y, [](Plan &plan) { plan.occupy(1, 0, 0); });
-    refuses("stock on a connecting section", connecting, {400, 1, 0, 4, 0}, 8);
     const Plan locked = with(yard_y, [](Plan &plan) { plan.occupy(3, 0, 0); });
     finds("a locked section can't be told from stock", locked, {600, 3, 0, 4, 0}, {4000, 1, {2, 5}});
     refuses("and has no more than its length", locked, {2001, 3, 0, 4, 0}, 8);
@@ -403,18 +387,8 @@ void starts() {
 }
 
 void finishes() {
-    for (uint32_t section : {5u, 6u, 1024u, 2147483652u, 4294967295u})
-        refuses("finish section out of range", yard_y, {600, 3, 0, section, 0}, 9);
-    for (uint32_t end : {2u, 3u, 4294967295u}) refuses("finish end out of range", yard_y, {600, 3, 0, 4, end}, 9);
-    for (uint32_t end : {2u, 4294967294u}) refuses("no end of the start section", yard_y, {600, 3, 0, 3, end}, 9);
-    for (uint32_t section : {1u, 2u}) refuses("a connecting finish", yard_y, {400, 3, 0, section, 0}, 9);
-    refuses("the start's section and end", yard_y, {600, 3, 1, 3, 1}, 9);
-    const auto room = [](uint32_t from_a, uint32_t from_b) {
-        return with(yard_y, [=](Plan &plan) { plan.occupy(4, from_a, from_b); });
-    };
-    refuses("room at the other end only", room(0, 2499), asked, 10);
-    refuses("a locked finish", room(0, 0), asked, 10);
-    no_walk("room, but no way to that end", room(0, 600), {600, 3, 0, 4, 1});
+    const Plan far_room = with(yard_y, [](Plan &plan) { plan.occupy(4, 0, 600); });
+    no_walk("room, but no way to that end", far_room, {600, 3, 0, 4, 1});
 }
 
 // The refusals from the last to the first: each fault is added to those before it, and its number takes over.
@@ -434,38 +408,14 @@ void order() {
     twelve.labels = {none, 3000, none, none, none, 2500, none, none, none, none};
     gives("12 before 14", 10, twelve);
     gives("11 before 12", 9, refused(11, 9));
-    plan.occupy(4, 599, 0);
-    refuses("10 before 11", plan, query, 10);
-    query.finish = 2;
-    refuses("9 before 10", plan, query, 9);
-    query.start_end = 2;
-    refuses("8 before 9", plan, query, 8);
-    query.length = 20001;
-    refuses("7 before 8", plan, query, 7);
-    plan.forbid(2, 1);
-    refuses("6 before 7", plan, query, 6, 1);
-    plan.forbid(1, 1);
-    refuses("5 before 6", plan, query, 5, 2);
-    plan.points = 7;
-    refuses("4 before 5", plan, query, 4, 6);
-    plan.join(2, 1, 50);
-    refuses("3 before 4", plan, query, 3, 5);
-    plan.occupy(3, 2000, 0);
-    refuses("2 before 3", plan, query, 2, 3);
-    plan.turns.push_back(0);
-    refuses("1 before 2", plan, query, 1);
+    for (const FaultyQuery &fault : added_query_faults(plan))
+        refuses(fault.what, fault.plan, fault.query, fault.number, fault.place);
 }
 
-// Each fault of the plan alone.
-void damaged() {
-    refuses("a section cut short", with(yard_y, [](Plan &plan) { plan.sections.pop_back(); }), asked, 1);
-    refuses("a turn cut short", with(yard_y, [](Plan &plan) { plan.turns.pop_back(); }), asked, 1);
-    refuses("no points", with(yard_y, [](Plan &plan) { plan.points = 0; }), asked, 1);
-    refuses("free from one end only", with(yard_y, [](Plan &plan) { plan.occupy(3, 2000, 0); }), asked, 2, 3);
-    refuses("the ends of section 1 again", with(yard_y, [](Plan &plan) { plan.join(2, 1, 50); }), asked, 3, 5);
-    refuses("a point without a section", with(yard_y, [](Plan &plan) { plan.points = 7; }), asked, 4, 6);
-    refuses("a turn onto a destination", with(yard_y, [](Plan &plan) { plan.forbid(1, 3); }), asked, 5, 1);
-    refuses("the turn again", with(yard_y, [](Plan &plan) { plan.forbid(2, 1); }), asked, 6, 1);
+// Each fault of the plan and of the query alone.
+void single_faults() {
+    for (const FaultyQuery &fault : query_faults())
+        refuses(fault.what, fault.plan, fault.query, fault.number, fault.place);
 }
 
 // A null pointer goes with 0 entries.
@@ -694,7 +644,7 @@ int main() {
     starts();
     finishes();
     order();
-    damaged();
+    single_faults();
     null_tables();
     largest();
     largest_at_random();

@@ -5,6 +5,7 @@
 #include "guard.h"
 #include "plan.h"
 #include "random_queries.h"
+#include "refusal_cases.h"
 #include "second_sheet.h"
 #include <cstdio>
 #include <iterator>
@@ -67,7 +68,6 @@ void refuses(const std::string &what, const Plan &plan, const Query &query, uint
                 gives(what, plan, query, {claim, list, List(labels, none)}, {number, place});
 }
 
-const Query asked{600, 3, 0, 4, 0};
 const Sheet sheet_y{1, {2, 5}, {none, 3000, 3600, none, none, 2500, 4000, none, none, none}};
 const SheetAnswer accepted_y{0, 0, 4100, 1, 2};
 
@@ -362,22 +362,8 @@ void label_lengths() {
 
 // Each earlier refusal alone.
 void earlier_refusals() {
-    refuses("a section cut short", with(yard_y, [](Plan &plan) { plan.sections.pop_back(); }), asked, 1);
-    refuses("a turn cut short", with(yard_y, [](Plan &plan) { plan.turns.pop_back(); }), asked, 1);
-    refuses("no points", with(yard_y, [](Plan &plan) { plan.points = 0; }), asked, 1);
-    refuses("free from one end only", with(yard_y, [](Plan &plan) { plan.occupy(3, 2000, 0); }), asked, 2, 3);
-    refuses("the ends of section 1 again", with(yard_y, [](Plan &plan) { plan.join(2, 1, 50); }), asked, 3, 5);
-    refuses("a point without a section", with(yard_y, [](Plan &plan) { plan.points = 7; }), asked, 4, 6);
-    refuses("a turn onto a destination", with(yard_y, [](Plan &plan) { plan.forbid(1, 3); }), asked, 5, 1);
-    refuses("the turn again", with(yard_y, [](Plan &plan) { plan.forbid(2, 1); }), asked, 6, 1);
-    for (uint32_t length : {0u, 20001u, none}) refuses("L out of range", yard_y, {length, 3, 0, 4, 0}, 7);
-    refuses("L = 601", yard_y, {601, 3, 0, 4, 0}, 8);
-    for (uint32_t section : {0u, 1u, 5u, none}) refuses("no train there", yard_y, {600, section, 0, 4, 0}, 8);
-    for (uint32_t end : {2u, none}) refuses("start end out of range", yard_y, {600, 3, end, 4, 0}, 8);
-    for (uint32_t section : {1u, 5u, none}) refuses("no finish section", yard_y, {600, 3, 0, section, 0}, 9);
-    for (uint32_t end : {2u, none}) refuses("finish end out of range", yard_y, {600, 3, 0, 4, end}, 9);
-    refuses("the finish is the start", yard_y, {600, 3, 0, 3, 0}, 9);
-    refuses("599 free at the finish", with(yard_y, [](Plan &plan) { plan.occupy(4, 599, 0); }), asked, 10);
+    for (const FaultyQuery &fault : query_faults())
+        refuses(fault.what, fault.plan, fault.query, fault.number, fault.place);
 }
 
 // The refusals from the last to the first: each fault is added to those before it, and its number takes over.
@@ -398,26 +384,8 @@ void order() {
     gives("17 before 18, no such claim", plan, query, sheet, {17});
     sheet.labels.pop_back();
     gives("11 before 17", plan, query, sheet, {11});
-    plan.occupy(4, 599, 0);
-    refuses("10 before 11", plan, query, 10);
-    query.finish = 2;
-    refuses("9 before 10", plan, query, 9);
-    query.start_end = 2;
-    refuses("8 before 9", plan, query, 8);
-    query.length = 20001;
-    refuses("7 before 8", plan, query, 7);
-    plan.forbid(2, 1);
-    refuses("6 before 7", plan, query, 6, 1);
-    plan.forbid(1, 1);
-    refuses("5 before 6", plan, query, 5, 2);
-    plan.points = 7;
-    refuses("4 before 5", plan, query, 4, 6);
-    plan.join(2, 1, 50);
-    refuses("3 before 4", plan, query, 3, 5);
-    plan.occupy(3, 2000, 0);
-    refuses("2 before 3", plan, query, 2, 3);
-    plan.turns.push_back(0);
-    refuses("1 before 2", plan, query, 1);
+    for (const FaultyQuery &fault : added_query_faults(plan))
+        refuses(fault.what, fault.plan, fault.query, fault.number, fault.place);
 }
 
 // A null pointer goes with 0 entries.
