@@ -90,14 +90,15 @@ constexpr std::string_view text(refusal number) noexcept {
     case refusal::steps: return "the route has more than 2,048 steps";
     case refusal::room: return "the answer does not fit the space that was lent for it";
     case refusal::no_turn:
-        return "no reversal is needed there: no such arrival or section, or the turn between them is not forbidden";
+        return "no such reversal: no such arrival or section, or no forbidden turn between them at the arrival's point";
     case refusal::no_pull_out: return "there is nowhere to pull the train out for this reversal";
     case refusal::claim:
-        return "the sheet claims neither \"no route\" nor a route, gives a route with \"no route\", or one that no "
-               "train can run";
+        return "the sheet claims neither a route nor \"no route\", lists steps for \"no route\", "
+               "or lists steps that are no admissible walk";
     case refusal::label_rule: return "the sheet's label of an arrival is greater than a step or the finish allows";
     case refusal::start_label:
-        return "the sheet's label at the start is not what its route needs, or not \"none\" for no route";
+        return "the sheet's label at the start does not fit the total of its route, "
+               "or is a number though it claims \"no route\"";
     case refusal::file:
         return "the yard file is malformed: a field is cut short, unknown, of wrong length, out of order or too many";
     }
