@@ -2,7 +2,6 @@
 // that can't be touched at either side, read-only where they are lent as const. After each call every entry of every table is compared.
 #include "lent.h"
 #include "refusal_cases.h"
-#include "yard_bytes.h"
 #include <cstddef>
 #include <cstdio>
 #include <map>
@@ -11,6 +10,9 @@
 
 namespace {
 
+using second::field_bytes;
+using second::fields_with;
+using second::joined;
 using second::Query;
 using second::Question;
 using second::Sheet;
@@ -65,7 +67,6 @@ struct Buffers {
         : route(filled(route_entries, 3000000000u)), labels(filled(label_entries, 4000000000u)) {}
 };
 
-const List labels_y{none, 3000, 3600, none, none, 2500, 4000, none, none, none};
 const List labels_without_turns{none, 3000, 3000, none, none, 2500, 3400, none, none, none};
 const List nones(10, none);
 
@@ -97,6 +98,8 @@ void search_calls() {
     search_refuses("too short a route buffer", yard_y, asked, Buffers(1, 10), 14);
     search_refuses("no sections", without_sections(yard_y), asked, Buffers(2, 10), 1);
     search_refuses("no tables and no buffers", {6, {}, {}}, asked, Buffers(0, 0), 1);
+    searched("no turns, no steps, no route buffer", three_points, {200, 0, 1, 1, 0}, Buffers(0, 4), {0, 0, 1000, 0, 0},
+             {}, {none, 900, none, none});
     const Buffers both(2, 10);
     searched("no turns", without_turns(yard_y), asked, both, {0, 0, 3500, 0, 2}, {2, 5}, labels_without_turns);
     for (const auto &faults : {query_faults(), added_query_faults(yard_y)})
@@ -157,6 +160,8 @@ void check_sheet_calls() {
     sheet_refuses("no sections", without_sections(yard_y), asked, sheet, 1);
     sheet_refuses("no turns: label 2 is too great", without_turns(yard_y), asked, sheet, 18, 2);
     sheet_gives("no turns", without_turns(yard_y), asked, {1, {2, 5}, labels_without_turns}, {0, 0, 3500, 0, 2});
+    sheet_gives("no turns, no steps, no list", three_points, {200, 0, 1, 1, 0}, {1, {}, {none, 900, none, none}},
+                {0, 0, 1000, 0, 0});
     sheet_refuses("no list with a walk", yard_y, asked, {1, {}, labels_y}, 17);
     sheet_refuses("no labels", yard_y, asked, {1, {2, 5}, {}}, 11);
     sheet_refuses("no tables and no sheet", {6, {}, {}}, asked, {1, {}, {}}, 1);
@@ -180,7 +185,7 @@ void read_gives(const std::string &what, const Bytes &file, const Tables &before
 }
 
 void read_yard_calls() {
-    const Bytes file = joined(yard_fields(yard_y, queries_y));
+    const Bytes file = joined(fields_with(yard_y, queries_y));
     const auto refuses = [](const std::string &what, const Bytes &bytes, const Tables &tables, uint32_t number,
                             uint32_t place) {
         read_gives(what, bytes, tables, {number, place, 0, 0, 0, 0}, tables);
@@ -198,7 +203,7 @@ void read_yard_calls() {
     refuses("no section table", file, tables_of(0, 2, 10), 14, 0);
     refuses("no turn table", file, tables_of(30, 0, 10), 14, 0);
     refuses("no query table", file, tables_of(30, 2, 0), 14, 0);
-    read_gives("points only, no tables", field(1, {6}), {}, {0, 0, 6, 0, 0, 0}, {});
+    read_gives("points only, no tables", field_bytes(1, {6}), {}, {0, 0, 6, 0, 0, 0}, {});
 }
 
 // Each function gave all the numbers that document 01 names for it, but for 13, which is never given.

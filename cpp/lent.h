@@ -34,6 +34,7 @@ private:
     bool null_;
 };
 
+using second::Bytes;
 using second::List;
 
 // What a call leaves behind: its numbers in the order of the struct, and the tables in the order of the arguments.
@@ -90,6 +91,9 @@ inline Left lend_check_sheet(Lending how, const Plan &plan, const second::Query 
                                                sheet.claim, list.data(), list.size(), labels.data(), labels.size());
     return {numbers_of(a), {p.sections.held(), p.turns.held(), list.held(), labels.held()}, {}};
 }
+
+// Document 01's queries over yard Y, as the yard reader writes them.
+inline const List queries_y{600, 3, 0, 4, 0, 601, 3, 0, 4, 0};
 
 // The three tables of the yard reader.
 struct Tables {

@@ -46,3 +46,6 @@ inline const Plan loop{4,
                         0, 2, 200, 0, 200, 200, //
                         1, 2, 300, 1, 300, 300},
                        {1, 2}};
+
+// Document 01's plan of three points, on which a walk needs no steps.
+inline const Plan three_points{3, {0, 1, 1000, 1, 700, 100, 1, 2, 900, 1, 900, 900}, {}};

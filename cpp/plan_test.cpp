@@ -1,4 +1,4 @@
-// finder_check_plan through the C ABI: yard Y, a plan for each refusal and place, null tables, and buffers at guard pages.
+// finder_check_plan through the C ABI: yard Y, a plan for each refusal and place, and tables at guard pages.
 #include "finder.h"
 #include "guard.h"
 #include "plan.h"
@@ -74,7 +74,6 @@ void tables() {
     check("no sections", Plan{6, {}, {}}, FINDER_TABLES, 0);
     check("1,025 sections", ladder(384, 259), FINDER_TABLES, 0);
     check("769 turns", with_turns(std::vector<uint32_t>(2 * 769, 1)), FINDER_TABLES, 0);
-    expect("null tables", finder_check_plan(6, nullptr, 0, nullptr, 0), FINDER_TABLES, 0);
 }
 
 void sections() {

@@ -268,20 +268,6 @@ void damaged() {
         refuses(fault.what, fault.plan, loop_asked, fault.number, fault.place);
 }
 
-// A null pointer goes with 0 entries.
-void null_tables() {
-    const auto got = [](const finder_pull &pull) { return Answer{pull.refusal, pull.place, pull.count, {}}; };
-    const Plan &y = loop;
-    expect("a null list",
-           got(finder_pull_out(y.points, y.sections.data(), y.sections.size(), y.turns.data(), y.turns.size(), 600, 2,
-                               2, nullptr, 0)),
-           {14, 0, 0, {}});
-    expect("null turns",
-           got(finder_pull_out(y.points, y.sections.data(), y.sections.size(), nullptr, 0, 600, 2, 2, nullptr, 0)),
-           {15, 0, 0, {}});
-    expect("null tables", got(finder_pull_out(y.points, nullptr, 0, nullptr, 0, 600, 2, 2, nullptr, 0)), {1, 0, 0, {}});
-}
-
 // How often the random plans gave each refusal, each number of sections, and an answer that hangs on each clause.
 struct Met {
     std::map<uint32_t, uint32_t> refusals, counts;
@@ -362,7 +348,6 @@ int main() {
     no_such_turn();
     order();
     damaged();
-    null_tables();
     against_second_program();
     std::puts(failed ? "pull_out_test: failed" : "pull_out_test: good");
     return failed;

@@ -54,8 +54,10 @@ inline std::vector<FaultyPlan> added_plan_faults(Plan plan) {
     return faults;
 }
 
-// The query of document 01's first case, over yard Y.
+// The query of document 01's first case, over yard Y, and the labels of its answer.
 inline const second::Query asked{600, 3, 0, 4, 0};
+inline const second::List labels_y{4294967295u, 3000, 3600,        4294967295u, 4294967295u,
+                                   2500,        4000, 4294967295u, 4294967295u, 4294967295u};
 
 inline void length_and_start_faults(std::vector<FaultyQuery> &faults) {
     const auto add = [&](const char *what, const second::Query &query, uint32_t number) {

@@ -118,7 +118,7 @@ void finds(const std::string &what, const Plan &plan, const Query &query, const 
 const List no_labels(10, none);
 
 void yard_y_cases() {
-    finds("yard Y", yard_y, asked, {4100, 1, {2, 5}}, List{none, 3000, 3600, none, none, 2500, 4000, none, none, none});
+    finds("yard Y", yard_y, asked, {4100, 1, {2, 5}}, labels_y);
     finds("yard Y", yard_y, asked, {4100, 1, {2, 5}});
     const auto spur = [](uint32_t from_b) { return with(yard_y, [=](Plan &plan) { plan.occupy(0, 2000, from_b); }); };
     finds("section 0 with 600 free from B", spur(600), asked, {4100, 1, {2, 5}});
@@ -131,16 +131,10 @@ void yard_y_cases() {
 }
 
 void no_steps() {
-    const Plan plan{3, {0, 1, 1000, 1, 700, 100, 1, 2, 900, 1, 900, 900}, {}};
-    finds("three points", plan, {200, 0, 1, 1, 0}, {1000, 0, {}}, List{none, 900, none, none});
-    finds("three points", plan, {200, 0, 1, 1, 0}, {1000, 0, {}});
-    no_walk("three points, entering by the far end", plan, {200, 0, 1, 1, 1});
-    no_walk("three points, leaving by the far end", plan, {200, 0, 0, 1, 0});
-    List labels = labels_of(4);
-    const finder_answer a = finder_search(plan.points, plan.sections.data(), plan.sections.size(), nullptr, 0, 200, 0,
-                                          1, 1, 0, nullptr, 0, labels.data(), labels.size());
-    expect("no steps, a null route buffer", {a.refusal, a.place, a.total, a.reversals, a.steps, {}, labels},
-           {0, 0, 1000, 0, 0, {}, {none, 900, none, none}});
+    finds("three points", three_points, {200, 0, 1, 1, 0}, {1000, 0, {}}, List{none, 900, none, none});
+    finds("three points", three_points, {200, 0, 1, 1, 0}, {1000, 0, {}});
+    no_walk("three points, entering by the far end", three_points, {200, 0, 1, 1, 1});
+    no_walk("three points, leaving by the far end", three_points, {200, 0, 0, 1, 0});
 }
 
 // Document 003's lengths are in metres; a section's stock is what it leaves free from end A and from end B.
@@ -418,26 +412,6 @@ void single_faults() {
         refuses(fault.what, fault.plan, fault.query, fault.number, fault.place);
 }
 
-// A null pointer goes with 0 entries.
-void null_tables() {
-    const auto got = [](const finder_answer &a, const List &labels) {
-        return SearchAnswer{a.refusal, a.place, a.total, a.reversals, a.steps, {}, labels};
-    };
-    const Plan &y = yard_y;
-    const auto with_turns = [&](const uint32_t *turns, size_t turns_len, List labels) {
-        const finder_answer a =
-            finder_search(y.points, y.sections.data(), y.sections.size(), turns, turns_len, 600, 3, 0, 4, 0, nullptr, 0,
-                          labels.empty() ? nullptr : labels.data(), labels.size());
-        return got(a, labels);
-    };
-    expect("a null route buffer", with_turns(y.turns.data(), 2, labels_of(10)), {14, 0, 0, 0, 0, {}, labels_of(10)});
-    expect("null labels too", with_turns(y.turns.data(), 2, {}), {11, 0, 0, 0, 0, {}, {}});
-    expect("null turns too", with_turns(nullptr, 0, {}), {11, 0, 0, 0, 0, {}, {}});
-    expect("null turns", with_turns(nullptr, 0, labels_of(10)), {14, 0, 0, 0, 0, {}, labels_of(10)});
-    expect("all null", got(finder_search(6, nullptr, 0, nullptr, 0, 600, 3, 0, 4, 0, nullptr, 0, nullptr, 0), {}),
-           {1, 0, 0, 0, 0, {}, {}});
-}
-
 // A line of n sections over n + 1 points; the first and the last are destinations, and the first is full.
 Plan line(uint32_t n, uint32_t length) {
     Plan plan{n + 1, {}, {}};
@@ -645,7 +619,6 @@ int main() {
     finishes();
     order();
     single_faults();
-    null_tables();
     largest();
     largest_at_random();
     against_second_program();

@@ -68,7 +68,7 @@ void refuses(const std::string &what, const Plan &plan, const Query &query, uint
                 gives(what, plan, query, {claim, list, List(labels, none)}, {number, place});
 }
 
-const Sheet sheet_y{1, {2, 5}, {none, 3000, 3600, none, none, 2500, 4000, none, none, none}};
+const Sheet sheet_y{1, {2, 5}, labels_y};
 const SheetAnswer accepted_y{0, 0, 4100, 1, 2};
 
 using Changes = std::initializer_list<std::pair<uint32_t, uint32_t>>;
@@ -178,7 +178,7 @@ void no_walks() {
 }
 
 void no_steps() {
-    const Plan plan{3, {0, 1, 1000, 1, 700, 100, 1, 2, 900, 1, 900, 900}, {}};
+    const Plan &plan = three_points;
     const Query query{200, 0, 1, 1, 0};
     const List labels{none, 900, none, none};
     gives("three points", plan, query, {1, {}, labels}, {0, 0, 1000, 0, 0});
@@ -386,25 +386,6 @@ void order() {
     gives("11 before 17", plan, query, sheet, {11});
     for (const FaultyQuery &fault : added_query_faults(plan))
         refuses(fault.what, fault.plan, fault.query, fault.number, fault.place);
-}
-
-// A null pointer goes with 0 entries.
-void null_tables() {
-    const List &y = yard_y.sections, &turns = yard_y.turns, &labels = sheet_y.labels, nones(10, none);
-    const uint32_t three_points[] = {0, 1, 1000, 1, 700, 100, 1, 2, 900, 1, 900, 900}, end[] = {none, 900, none, none};
-    expect("a null list, a walk of no steps, null turns",
-           answered(finder_check_sheet(3, three_points, 12, nullptr, 0, 200, 0, 1, 1, 0, 1, nullptr, 0, end, 4)),
-           {0, 0, 1000, 0, 0});
-    const auto null_list = [&](uint32_t finish, uint32_t finish_end, uint32_t claim, const uint32_t *labels, size_t n) {
-        return answered(finder_check_sheet(6, y.data(), y.size(), turns.data(), turns.size(), 600, 3, 0, finish,
-                                           finish_end, claim, nullptr, 0, labels, n));
-    };
-    expect("a null list, no route", null_list(3, 1, 0, nones.data(), 10), {});
-    expect("a null list, no route where there is one", null_list(4, 0, 0, labels.data(), 10), {19});
-    expect("a null list, no walk", null_list(4, 0, 1, labels.data(), 10), {17});
-    expect("null labels too", null_list(4, 0, 1, nullptr, 0), {11});
-    expect("all null",
-           answered(finder_check_sheet(6, nullptr, 0, nullptr, 0, 600, 3, 0, 4, 0, 1, nullptr, 0, nullptr, 0)), {1});
 }
 
 // What the search answers, as a sheet.
@@ -693,7 +674,6 @@ int main() {
     label_lengths();
     earlier_refusals();
     order();
-    null_tables();
     largest();
     against_second_program();
     std::puts(failed ? "sheet_test: failed" : "sheet_test: good");

@@ -134,7 +134,7 @@ void same_answers() {
     for (const FaultyQuery &fault : query_faults()) same_search(fault.what, fault.plan, fault.query, 2);
     for (size_t entries : {0, 2, 5}) same_pull_out(loop, {600, 2, 2}, entries);
     for (uint32_t length : {0u, 601u}) same_pull_out(loop, {length, 2, 2}, 2);
-    const Bytes file = joined(yard_fields(yard_y, queries_y));
+    const Bytes file = second::joined(second::fields_with(yard_y, queries_y));
     for (const Tables &tables : {tables_of(30, 2, 10), tables_of(40, 40, 40), tables_of(29, 2, 10)}) {
         same_reading(file, tables);
         same_reading({}, tables);
@@ -143,7 +143,7 @@ void same_answers() {
 }
 
 void accessors() {
-    const Bytes file = joined(yard_fields(yard_y, queries_y));
+    const Bytes file = second::joined(second::fields_with(yard_y, queries_y));
     Tables tables = tables_of(40, 40, 40);
     const finder::yard yard = finder::read_yard(file, tables.sections, tables.turns, tables.queries);
     const finder::plan_view plan = yard.plan_in(tables.sections, tables.turns);

@@ -1,12 +1,16 @@
 // finder_read_yard through the C ABI: yard Y's file, every fault of a field at its offset, the largest file, tables too short, values
 // that are read and not judged, and the files of examples/. What is expected is worked out from the fields that a file is made of.
 #include "lent.h"
-#include "yard_bytes.h"
 #include <filesystem>
 #include <fstream>
 #include <iterator>
 
 namespace {
+
+using second::field_bytes;
+using second::Fields;
+using second::fields_with;
+using second::joined;
 
 int failed = 0;
 
@@ -30,7 +34,7 @@ void malformed(const std::string &what, const Bytes &file, size_t offset) {
 // What is read goes into the fronts of tables that are long enough, and the rest of them is kept; where one of them is an entry too
 // short, all are kept.
 void reads(const std::string &what, const Plan &plan, const List &queries) {
-    const Bytes file = joined(yard_fields(plan, queries));
+    const Bytes file = joined(fields_with(plan, queries));
     const size_t sections = plan.sections.size(), turns = plan.turns.size();
     const List numbers{0,
                        0,
@@ -52,10 +56,10 @@ void reads(const std::string &what, const Plan &plan, const List &queries) {
     if (!queries.empty()) too_short("queries", tables_of(sections + 1, turns + 1, queries.size() - 1));
 }
 
-const std::vector<Bytes> fields_y = yard_fields(yard_y, queries_y);
+const Fields fields_y = fields_with(yard_y, queries_y);
 
 // Where field i begins.
-size_t offset_of(const std::vector<Bytes> &file, size_t i) {
+size_t offset_of(const Fields &file, size_t i) {
     return joined({file.begin(), file.begin() + static_cast<ptrdiff_t>(i)}).size();
 }
 
@@ -75,7 +79,7 @@ void every_front() {
     malformed("an empty file", {}, 0);
     for (size_t i = 0; i < fields_y.size(); i++)
         for (size_t bytes = 1; bytes < fields_y[i].size(); bytes++) {
-            std::vector<Bytes> file(fields_y.begin(), fields_y.begin() + static_cast<ptrdiff_t>(i + 1));
+            Fields file(fields_y.begin(), fields_y.begin() + static_cast<ptrdiff_t>(i + 1));
             file[i].resize(bytes);
             malformed("field " + std::to_string(i) + " cut short", joined(file), offset_of(fields_y, i));
         }
@@ -85,7 +89,7 @@ void every_front() {
 void every_tag() {
     for (size_t i = 0; i < fields_y.size(); i++)
         for (uint32_t tag = 0; tag < 256; tag++) {
-            std::vector<Bytes> file = fields_y;
+            Fields file = fields_y;
             if (file[i][0] == tag) continue;
             file[i][0] = static_cast<uint8_t>(tag);
             malformed("field " + std::to_string(i) + " with tag " + std::to_string(tag), joined(file),
@@ -97,7 +101,7 @@ void every_length() {
     for (size_t i = 0; i < fields_y.size(); i++) {
         const size_t right = fields_y[i].size() - 3;
         for (size_t length : {size_t{0}, right - 1, right + 1, 256 * right, 256 + right, size_t{65535}}) {
-            std::vector<Bytes> file = fields_y;
+            Fields file = fields_y;
             file[i][1] = static_cast<uint8_t>(length / 256);
             file[i][2] = static_cast<uint8_t>(length % 256);
             const std::string what = "field " + std::to_string(i) + " with length " + std::to_string(length);
@@ -109,7 +113,7 @@ void every_length() {
 }
 
 // The first field that is not in order: the first has tag 1 and no other, and tags never fall.
-size_t first_out_of_order(const std::vector<Bytes> &file) {
+size_t first_out_of_order(const Fields &file) {
     for (size_t i = 0; i < file.size(); i++) {
         const bool right = i == 0 ? file[0][0] == 1 : file[i][0] != 1 && file[i][0] >= file[i - 1][0];
         if (!right) return i;
@@ -120,15 +124,15 @@ size_t first_out_of_order(const std::vector<Bytes> &file) {
 void order() {
     for (size_t i = 0; i < fields_y.size(); i++)
         for (size_t j = i + 1; j < fields_y.size(); j++) {
-            std::vector<Bytes> file = fields_y;
+            Fields file = fields_y;
             std::swap(file[i], file[j]);
             if (first_out_of_order(file) == file.size()) continue;
             malformed("fields " + std::to_string(i) + " and " + std::to_string(j) + " swapped", joined(file),
                       offset_of(file, first_out_of_order(file)));
         }
     for (size_t i = 1; i <= fields_y.size(); i++) {
-        std::vector<Bytes> file = fields_y;
-        file.insert(file.begin() + static_cast<ptrdiff_t>(i), field(1, {6}));
+        Fields file = fields_y;
+        file.insert(file.begin() + static_cast<ptrdiff_t>(i), field_bytes(1, {6}));
         malformed("the points again, as field " + std::to_string(i), joined(file), offset_of(file, i));
     }
     for (size_t i = 1; i < fields_y.size(); i++)
@@ -140,7 +144,7 @@ void order() {
 void two_faults() {
     for (size_t i = 0; i < fields_y.size(); i++)
         for (size_t j = i + 1; j < fields_y.size(); j++) {
-            std::vector<Bytes> file = fields_y;
+            Fields file = fields_y;
             file[i][0] = 9;
             file[j][2]++;
             malformed("an unknown tag, then a wrong length", joined(file), offset_of(file, i));
@@ -167,13 +171,13 @@ void most() {
     reads("as many turns as there can be", plan(0, 768), {});
     reads("as many queries as there can be", plan(0, 0), repeated(query, 256));
     const auto too_many = [](const std::string &what, const Plan &plan, const List &queries, size_t offset) {
-        malformed(what, joined(yard_fields(plan, queries)), offset);
+        malformed(what, joined(fields_with(plan, queries)), offset);
     };
     too_many("1,025 sections", plan(1025, 1), query, 5 + 20 * 1024);
     too_many("769 turns", plan(1, 769), query, 5 + 20 + 7 * 768);
     too_many("257 queries", plan(1, 1), repeated(query, 257), 5 + 20 + 7 + 13 * 256);
     too_many("one more of each", plan(1025, 769), repeated(query, 257), 5 + 20 * 1024);
-    Bytes more = joined(yard_fields(plan(1024, 768), repeated(query, 256)));
+    Bytes more = joined(fields_with(plan(1024, 768), repeated(query, 256)));
     const size_t end = more.size();
     more.push_back(0);
     malformed("a byte more than the largest file has", more, end);
@@ -210,7 +214,7 @@ void examples() {
         turns.resize(FINDER_TURNS_LEN(yard.turns));
         queries.resize(FINDER_QUERIES_LEN(yard.queries));
         const Plan plan{yard.points, sections, turns};
-        if (yard.refusal != 0 || joined(yard_fields(plan, queries)) != file) {
+        if (yard.refusal != 0 || joined(fields_with(plan, queries)) != file) {
             failed = 1;
             std::printf("yard_file_test: %s: %u at %u, or not what the file says\n", entry.path().c_str(), yard.refusal,
                         yard.place);
