@@ -6,6 +6,7 @@
 
 #include "finder.h"
 #include <algorithm>
+#include <array>
 #include <charconv>
 #include <cstddef>
 #include <cstdint>
@@ -65,59 +66,55 @@ enum class refusal : std::uint32_t {
     file = FINDER_FILE
 };
 
-// A refusal in words; empty for a number that is none.
-constexpr std::string_view text(refusal number) noexcept {
-    switch (number) {
-    case refusal::ok: return "not refused";
-    case refusal::tables:
-        return "the plan has too few or too many points, sections or forbidden turns, or one of them is cut short";
-    case refusal::section:
-        return "a section breaks the rules: it joins two different points, is 0.1 m to 20,000 m long, connecting or a "
-               "destination, and is free all along or keeps less than its length free";
-    case refusal::same_points: return "a section joins the same two points as an earlier one";
-    case refusal::point: return "a point has no section, or more than three";
-    case refusal::turn: return "a forbidden turn is not between two different connecting sections that share a point";
-    case refusal::second_turn: return "a second forbidden turn at the same point";
-    case refusal::train: return "the train's length is not 0.1 m to 2,000 m";
-    case refusal::start:
-        return "the train can't start there: no such section or end, no destination, or less stock than the train is "
-               "long";
-    case refusal::finish:
-        return "the train can't finish there: no such section or end, no destination, or the start itself";
-    case refusal::finish_room: return "the finish has less room than the train is long";
-    case refusal::labels: return "there is not one label for each arrival, two for each section";
-    case refusal::no_route: return "there is no route";
-    case refusal::steps: return "the route has more than 2,048 steps";
-    case refusal::room: return "the answer does not fit the space that was lent for it";
-    case refusal::no_turn:
-        return "no such reversal: no such arrival or section, or no forbidden turn between them at the arrival's point";
-    case refusal::no_pull_out: return "there is nowhere to pull the train out for this reversal";
-    case refusal::claim:
-        return "the sheet claims neither a route nor \"no route\", lists steps for \"no route\", "
-               "or lists steps that are no admissible walk";
-    case refusal::label_rule: return "the sheet's label of an arrival is greater than a step or the finish allows";
-    case refusal::start_label:
-        return "the sheet's label at the start does not fit the total of its route, "
-               "or is a number though it claims \"no route\"";
-    case refusal::file:
-        return "the yard file is malformed: a field is cut short, unknown, of wrong length, out of order or too many";
-    }
-    return {};
+namespace detail {
+
+// A refusal in words, and what its place counts, where it has one.
+struct words {
+    std::string_view text, place;
+};
+
+// By number.
+inline constexpr std::array<words, 21> refusal_words{{
+    {"not refused", ""},
+    {"the plan has too few or too many points, sections or forbidden turns, or one of them is cut short", ""},
+    {"a section breaks the rules: it joins two different points, is 0.1 m to 20,000 m long, connecting or a "
+     "destination, and is free all along or keeps less than its length free",
+     "section"},
+    {"a section joins the same two points as an earlier one", "section"},
+    {"a point has no section, or more than three", "point"},
+    {"a forbidden turn is not between two different connecting sections that share a point", "turn"},
+    {"a second forbidden turn at the same point", "turn"},
+    {"the train's length is not 0.1 m to 2,000 m", ""},
+    {"the train can't start there: no such section or end, no destination, or less stock than the train is long", ""},
+    {"the train can't finish there: no such section or end, no destination, or the start itself", ""},
+    {"the finish has less room than the train is long", ""},
+    {"there is not one label for each arrival, two for each section", ""},
+    {"there is no route", ""},
+    {"the route has more than 2,048 steps", ""},
+    {"the answer does not fit the space that was lent for it", ""},
+    {"no such reversal: no such arrival or section, or no forbidden turn between them at the arrival's point", ""},
+    {"there is nowhere to pull the train out for this reversal", ""},
+    {"the sheet claims neither a route nor \"no route\", lists steps for \"no route\", or lists steps that are no "
+     "admissible walk",
+     ""},
+    {"the sheet's label of an arrival is greater than a step or the finish allows", "arrival"},
+    {"the sheet's label at the start does not fit the total of its route, or is a number though it claims \"no route\"",
+     ""},
+    {"the yard file is malformed: a field is cut short, unknown, of wrong length, out of order or too many", "byte"},
+}};
+
+constexpr words words_of(refusal number) noexcept {
+    const auto i = static_cast<std::size_t>(number);
+    return i < refusal_words.size() ? refusal_words[i] : words{};
 }
 
-// What the place of a refusal counts; empty where it has none.
-constexpr std::string_view place_word(refusal number) noexcept {
-    switch (number) {
-    case refusal::section:
-    case refusal::same_points: return "section";
-    case refusal::point: return "point";
-    case refusal::turn:
-    case refusal::second_turn: return "turn";
-    case refusal::label_rule: return "arrival";
-    case refusal::file: return "byte";
-    default: return {};
-    }
-}
+} // namespace detail
+
+// A refusal in words; empty for a number that is none.
+constexpr std::string_view text(refusal number) noexcept { return detail::words_of(number).text; }
+
+// What the place of a refusal counts: sections, points, turns, arrivals or bytes, from 0; empty where it has no place.
+constexpr std::string_view place_word(refusal number) noexcept { return detail::words_of(number).place; }
 
 namespace detail {
 
