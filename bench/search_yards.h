@@ -5,6 +5,7 @@
 #include <algorithm>
 #include <iterator>
 #include <random>
+#include <stdexcept>
 #include <string>
 
 // The standard's distributions differ from library to library, so numbers are drawn by hand. Compilers differ in the order in
@@ -203,6 +204,12 @@ inline const std::vector<SearchFamily> search_families{
     {"line of stations", line_of_stations, {6, 18, 50}},
     {"chain of passing loops", passing_loops, {12, 36, 108}},
 };
+
+inline const SearchFamily &family_named(const std::string &name) {
+    for (const SearchFamily &family : search_families)
+        if (family.name == name) return family;
+    throw std::invalid_argument(name);
+}
 
 // A train, and a plan in which it stands where it starts.
 struct Query {

@@ -1,0 +1,35 @@
+// Calls of one side, for counting instructions.
+//   search_calls SIDE YARD SIZE HALF EACH    the queries of a yard, so many of each length; the number of calls made
+// What lies between count_begins and count_ends is counted: callgrind is told by a request, a log of addresses tells it by
+// the addresses of the two.
+#include "sides.h"
+#include <cstdio>
+#include <cstdlib>
+#include <valgrind/callgrind.h>
+
+extern "C" {
+[[gnu::noinline]] void count_begins() { CALLGRIND_TOGGLE_COLLECT; }
+[[gnu::noinline]] void count_ends() { CALLGRIND_TOGGLE_COLLECT; }
+}
+
+namespace {
+
+uint32_t number(const char *word) { return static_cast<uint32_t>(std::strtoul(word, nullptr, 10)); }
+
+void call_all(const Side &side, const std::vector<Query> &queries) {
+    std::vector<Outcome> outcomes;
+    for (const Query &query : queries) outcomes.push_back(outcome_for(side, query));
+    count_begins();
+    for (size_t i = 0; i < queries.size(); i++) side.call(queries[i], outcomes[i]);
+    count_ends();
+}
+
+} // namespace
+
+int main(int argc, char **argv) {
+    if (argc != 6) return std::fputs("search_calls: SIDE YARD SIZE HALF EACH\n", stderr), 2;
+    const Plan yard = family_named(argv[2]).yard(number(argv[3]));
+    const std::vector<Query> queries = draw_queries(yard, number(argv[4]) != 0, number(argv[5]));
+    call_all(side_named(argv[1]), queries);
+    std::printf("%zu\n", queries.size());
+}
