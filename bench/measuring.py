@@ -2,6 +2,7 @@
 the instructions of its functions."""
 import bisect
 import collections
+import os
 import pathlib
 import platform
 import re
@@ -38,13 +39,29 @@ def build_library():
         run("rt", "staticlib", "finder", capture_output=True)
 
 
-def build(name):
+def compiled(source, *flags):
+    path = OUT / f"{source}.o"
+    run("x86_64-linux-gnu-g++", *FLAGS, *flags, "-c", f"bench/{source}.cpp", "-o", path)
+    return path
+
+
+def build(name, *objects):
+    """A program of bench/, linked with the library."""
     OUT.mkdir(parents=True, exist_ok=True)
-    run("x86_64-linux-gnu-g++", *FLAGS, f"bench/{name}.cpp", LIBRARY, "-o", OUT / name)
+    run("x86_64-linux-gnu-g++", *FLAGS, f"bench/{name}.cpp", *objects, LIBRARY, "-o", OUT / name)
     return OUT / name
 
 
+def build_sides(*names):
+    """Programs that run the sides of bench/sides.h. LEMON's headers are no C++20 and have a false alarm of their own."""
+    OUT.mkdir(parents=True, exist_ok=True)
+    lemon = compiled("lemon_search", "-std=c++17", "-DLEMON_ONLY_TEMPLATES", "-Wno-maybe-uninitialized")
+    return [build(name, lemon) for name in names]
+
+
 C_LIBRARY = "C library"
+# Crate, modules, name: functions of C++ have their arguments in their names.
+LIBRARY_FUNCTION = re.compile(r"\w+(::\w+)+$")
 
 
 class Functions:
@@ -85,56 +102,89 @@ class Place:
             entry = name.startswith("finder_")
             self.before = self.inside if entry else ""
             self.inside = name
-            self.words = f"{name} after {self.before}" if "::" in self.before else name
+            self.words = f"{name} after {self.before}" if LIBRARY_FUNCTION.match(self.before) else name
         return self.words
 
 
-def addresses(log, begin, end):
-    """Of the instructions between two functions."""
+def blocks(log):
+    """The blocks of instructions that were run: their addresses, and how many instructions they have. A block's operations are
+    in the log before its first run, with a line for each instruction."""
+    sizes, translated = {}, None
     for line in log:
-        if line.split(b"/", 2)[1] == begin:
+        if line.startswith(b"Trace"):
+            address = line.split(b"/", 2)[1]
+            yield address, sizes[address]
+        elif line.startswith(b"OP:"):
+            translated = None
+        elif line.startswith(b" ---- "):
+            if translated is None:
+                translated = line.split()[1]
+                sizes[translated] = 0
+            sizes[translated] += 1
+
+
+def between(all_blocks, begin, end):
+    """The blocks from one function's beginning to another's."""
+    for address, size in all_blocks:
+        if address == begin:
             break
-    for line in log:
-        address = line.split(b"/", 2)[1]
+    for address, size in all_blocks:
         if address == end:
             break
-        yield address
-    for line in log:
+        yield address, size
+    for _ in all_blocks:
         pass
 
 
 def counted_by_log(program, words):
-    """Under the emulator: a block holds one instruction, and the log has a line with the address of each block."""
+    """Under the emulator, whose log has a line for each block that is run."""
     functions = Functions(program)
-    place = Place(functions)
+    place, counts = Place(functions), collections.Counter()
     begin, end = (b"%016x" % functions.address(name) for name in ("count_begins", "count_ends"))
-    settings = ("-one-insn-per-tb", "-d", "exec,nochain", "-D", "/dev/stderr")
-    command = [str(word) for word in (*emulator(*settings), program, *words)]
+    command = [str(word) for word in (*emulator("-d", "op,exec,nochain", "-D", "/dev/stderr"), program, *words)]
     with subprocess.Popen(command, stdout=subprocess.PIPE, stderr=subprocess.PIPE, cwd=ROOT) as process:
-        counts = collections.Counter(place.at(address) for address in addresses(process.stderr, begin, end))
+        for address, size in between(blocks(process.stderr), begin, end):
+            counts[place.at(address), address] += size
         said = process.stdout.read().decode()
     if process.returncode != 0:
         raise subprocess.CalledProcessError(process.returncode, command, said)
     return said, counts
 
 
-def counted_by_callgrind(program, words):
-    """A cost line counts for the function named last, one that follows a line of calls for the function called."""
-    dump = OUT / "callgrind.out"
-    said = run("env", *(f"{name}={value}" for name, value in VECTOR_FILLS.items()), "valgrind", "--tool=callgrind",
-               "--collect-atstart=no", f"--callgrind-out-file={dump}", program, *words, capture_output=True).stdout
-    names, counts, function, of_call = {}, collections.Counter(), None, False
+NAMED = re.compile(r"(c?)fn=\((\d+)\)(?: ([^']*))?")
+COST = re.compile(r"[\d+*-]\S* (\d+)$")
+FILL = re.compile(r"_*mem(set|cpy|move)")
+
+
+def costs(dump):
+    """The cost lines of callgrind's output: the function, the function that it calls or None, the cost. A line that follows one of
+    calls has the cost of those calls; names are written out once and then go by number."""
+    names, function, callee, of_call = {}, None, None, False
     for line in dump.read_text().splitlines():
-        if named := re.match(r"fn=\((\d+)\)(?: (.*))?", line):
-            function = names.setdefault(named[1], named[2])
+        if named := NAMED.match(line):
+            name = names.setdefault(named[2], named[3])
+            function, callee = (function, name) if named[1] else (name, None)
         elif line.startswith("calls="):
             of_call = True
-        elif re.match(r"[\d+*-]\S* \d+$", line):
-            counts[function] += 0 if of_call else int(line.split()[1])
+        elif cost := COST.match(line):
+            yield function, callee if of_call else None, int(cost[1])
             of_call = False
+
+
+def counted_by_callgrind(program, words):
+    """On x86-64. What the C library does to fill and copy counts for who asks for it."""
+    dump, counts = OUT / "callgrind.out", collections.Counter()
+    said = run("valgrind", "--tool=callgrind", "--collect-atstart=no", f"--callgrind-out-file={dump}", program, *words,
+               capture_output=True, env=os.environ | VECTOR_FILLS).stdout
+    for function, callee, cost in costs(dump):
+        if callee is None and not FILL.match(function):
+            counts[function, b""] += cost
+        elif callee is not None and FILL.match(callee) and not FILL.match(function):
+            counts[f"{function}, in the {C_LIBRARY}", b""] += cost
     return said, counts
 
 
 def counted(program, *words):
-    """What a program prints, and the instructions of each function between count_begins and count_ends."""
+    """What a program prints, and its instructions between count_begins and count_ends, by place and address of a block; callgrind
+    tells no addresses."""
     return (counted_by_callgrind if NATIVE else counted_by_log)(program, words)

@@ -1,5 +1,5 @@
 // Calls of one side, for counting instructions.
-//   search_calls SIDE YARD SIZE HALF EACH    the queries of a yard, so many of each length; the number of calls made
+//   search_calls SIDE YARD SIZE HALF EACH    the queries of a yard, so many of each length; prints the number of calls
 // What lies between count_begins and count_ends is counted: callgrind is told by a request, a log of addresses tells it by
 // the addresses of the two.
 #include "sides.h"
@@ -18,9 +18,13 @@ uint32_t number(const char *word) { return static_cast<uint32_t>(std::strtoul(wo
 
 void call_all(const Side &side, const std::vector<Query> &queries) {
     std::vector<Outcome> outcomes;
-    for (const Query &query : queries) outcomes.push_back(outcome_for(side, query));
+    std::vector<Call> calls;
+    for (const Query &query : queries) {
+        outcomes.emplace_back(query);
+        calls.push_back(side.ready(query));
+    }
     count_begins();
-    for (size_t i = 0; i < queries.size(); i++) side.call(queries[i], outcomes[i]);
+    for (size_t i = 0; i < calls.size(); i++) calls[i](outcomes[i]);
     count_ends();
 }
 

@@ -1,9 +1,7 @@
-// Yards and queries for measuring the search, by size. Lengths are those of real yards, in decimetres: connecting sections
-// of 200 to 1,500, destinations of 3,000 to 7,000. All numbers are drawn with fixed seeds.
+// Yards for measuring the search, by size. Lengths are those of real yards, in decimetres: connecting sections of 200 to 1,500,
+// destinations of 3,000 to 7,000. All numbers are drawn with fixed seeds.
 #pragma once
-#include "../cpp/plan.h"
-#include <algorithm>
-#include <iterator>
+#include "../cpp/paper_yard.h"
 #include <random>
 #include <stdexcept>
 #include <string>
@@ -134,33 +132,34 @@ class Layout {
     }
 };
 
-// A yard of the size of Pardubice: 677 points, 710 sections, 100 switches, 34 dead ends. Four groups of tracks in line, with
-// depots beside the line in both directions; the line leaves the plan at both ends.
-inline Plan pardubice(uint32_t) {
+inline Plan document_003(uint32_t) { return paper_yard; }
+
+// Groups of tracks in line, with depots beside the line in both directions; the line leaves the plan at both ends. Four groups
+// make a yard of the size of Pardubice: 677 points, 710 sections, 100 switches, 34 dead ends.
+inline Plan pardubice(uint32_t groups) {
     Layout yard(677);
     uint32_t line = yard.point();
-    const uint32_t entry = line;
-    yard.stub(entry);
+    yard.stub(line);
     const struct {
         uint32_t dead_ends, tracks;
         bool facing_back;
     } parts[] = {{8, 10, true}, {10, 12, false}, {6, 9, true}, {8, 7, false}};
-    for (const auto &part : parts) {
-        const uint32_t throat = yard.depot(line, part.dead_ends, part.facing_back);
-        line = yard.tracks(throat, part.tracks);
+    for (uint32_t i = 0; i < groups; i++) {
+        const uint32_t throat = yard.depot(line, parts[i].dead_ends, parts[i].facing_back);
+        line = yard.tracks(throat, parts[i].tracks);
     }
     yard.stub(line);
-    return yard.lay(677);
+    return yard.lay(677 * groups / 4);
 }
 
-// Dead ends on one ladder, behind a stretch of line that leaves the plan.
+// Dead ends on one ladder, behind a stretch of line that leaves the plan: three points for each and three more.
 inline Plan ladder_depot(uint32_t count) {
     Layout yard(count);
     const uint32_t line = yard.point(), lead = yard.point();
     yard.stub(line);
     yard.link(line, lead);
     yard.dead_ends(lead, count);
-    return yard.lay();
+    return yard.lay(3 * count + 3);
 }
 
 // The same behind a balloon. A run that goes round it comes back over points that it has passed: no pull-out, although it
@@ -171,7 +170,7 @@ inline Plan balloon_depot(uint32_t count) {
     yard.balloon(line);
     yard.link(line, lead);
     yard.dead_ends(lead, count);
-    return yard.lay();
+    return yard.lay(3 * count + 3);
 }
 
 // Groups of so many tracks in line, a stretch of line before each.
@@ -194,71 +193,21 @@ inline Plan passing_loops(uint32_t count) { return groups_in_line(count, 2); }
 struct SearchFamily {
     const char *name;
     Plan (*yard)(uint32_t size);
-    std::vector<uint32_t> sizes; // tracks, stations or loops
+    std::vector<uint32_t> sizes; // groups, dead ends, stations or loops
 };
 
+// The largest of each is close to the most points that a plan may have.
 inline const std::vector<SearchFamily> search_families{
-    {"like Pardubice", pardubice, {1}},
-    {"ladder depot", ladder_depot, {20, 60, 180}},
-    {"ladder depot behind a balloon", balloon_depot, {20, 60, 180}},
-    {"line of stations", line_of_stations, {6, 18, 50}},
-    {"chain of passing loops", passing_loops, {12, 36, 108}},
+    {"document 003's yard", document_003, {1}},
+    {"like Pardubice", pardubice, {1, 2, 4}},
+    {"ladder depot", ladder_depot, {28, 84, 254}},
+    {"ladder depot behind a balloon", balloon_depot, {28, 84, 254}},
+    {"line of stations", line_of_stations, {6, 18, 54}},
+    {"chain of passing loops", passing_loops, {14, 42, 126}},
 };
 
 inline const SearchFamily &family_named(const std::string &name) {
     for (const SearchFamily &family : search_families)
         if (family.name == name) return family;
     throw std::invalid_argument(name);
-}
-
-// A train, and a plan in which it stands where it starts.
-struct Query {
-    Plan plan;
-    uint32_t length, start, start_end, finish, finish_end;
-};
-
-inline std::vector<uint32_t> destinations_of(const Plan &plan) {
-    std::vector<uint32_t> all;
-    for (uint32_t s = 0; s < plan.count(); s++)
-        if (plan.sections[6 * s + 3] == 1) all.push_back(s);
-    return all;
-}
-
-// Stock of this length on a section, anywhere on it.
-inline void put_stock(Plan &plan, uint32_t section, uint32_t length, Draw &draw) {
-    const uint32_t spare = plan.sections[6 * section + 2] - length, from_a = draw.below(spare + 1);
-    plan.occupy(section, from_a, spare - from_a);
-}
-
-// Half of the destinations are occupied, drawn at random.
-inline void occupy_half(Plan &plan, Draw &draw) {
-    std::vector<uint32_t> left = destinations_of(plan);
-    for (size_t i = left.size() / 2; i > 0; i--) {
-        const auto at = std::next(left.begin(), draw.below(static_cast<uint32_t>(left.size())));
-        put_stock(plan, *at, draw.between(500, 2500), draw);
-        left.erase(at);
-    }
-}
-
-// A train of this length on a section drawn at random, to another section with room for it; both ends drawn.
-inline Query draw_query(const Plan &plan, uint32_t length, Draw &draw) {
-    const std::vector<uint32_t> all = destinations_of(plan);
-    const auto any = [&] { return all[draw.below(static_cast<uint32_t>(all.size()))]; };
-    Query query{plan, length, any(), draw.below(2), any(), draw.below(2)};
-    while (plan.sections[6 * query.start + 2] < length) query.start = any();
-    while (query.finish == query.start || plan.sections[6 * query.finish + 4 + query.finish_end] < length)
-        query.finish = any();
-    put_stock(query.plan, query.start, length, draw);
-    return query;
-}
-
-// The queries of one yard: so many of each length, from 20 m to 500 m.
-inline std::vector<Query> draw_queries(const Plan &yard, bool half_occupied, uint32_t each) {
-    Draw draw(yard.count());
-    Plan plan = yard;
-    if (half_occupied) occupy_half(plan, draw);
-    std::vector<Query> all;
-    for (const uint32_t length : {200u, 500u, 1000u, 2000u, 3500u, 5000u})
-        for (uint32_t i = 0; i < each; i++) all.push_back(draw_query(plan, length, draw));
-    return all;
 }

@@ -1,16 +1,13 @@
-// What a C++ programmer would write for the work of finder_search: the plan check, the graph of arrivals, pull-outs by
-// depth-first search, Dijkstra's algorithm backwards from the finish, the first shortest walk. Nothing is kept from one query
-// to the next. bench/search_times.cpp times it next to the library and compares the answers.
+// What the baselines share: the plan check, the sections of each point, the check of the train, and pull-outs by depth-first
+// search. Nothing is kept from one query to the next.
 #pragma once
 #include "finder.h"
-#include "search_yards.h"
-#include <array>
-#include <queue>
+#include "search_queries.h"
 #include <utility>
 
 namespace baseline {
 
-constexpr uint32_t none = 4294967295u;
+constexpr uint32_t none = FINDER_NONE;
 
 struct Section {
     uint32_t a, b, length, kind, free_a, free_b;
@@ -165,117 +162,6 @@ class PullOuts {
     }
 };
 
-// At most two steps from an arrival, by ascending section, and at most two to it.
-struct Step {
-    uint32_t arrival, cost;
-};
-
-struct Steps {
-    std::array<Step, 2> step;
-    uint32_t count = 0;
-
-    void add(uint32_t arrival, uint32_t cost) { step[count++] = {arrival, cost}; }
-    const Step *begin() const { return step.data(); }
-    const Step *end() const { return step.data() + count; }
-};
-
-class Search {
-  public:
-    Search(const Yard &yard, const Query &query)
-        : yard(yard), query(query), goal(yard.point_of(2 * query.finish + query.finish_end)),
-          onward(2 * yard.sections.size()), backward(2 * yard.sections.size()) {}
-
-    finder_answer run(uint32_t room, uint32_t first_distance, std::vector<uint32_t> &route, std::vector<uint32_t> &labels) {
-        find_steps();
-        std::vector<uint32_t> distances = remaining(room);
-        const uint32_t from = 2 * query.start + query.start_end;
-        if (distances[from] == none) {
-            std::copy(distances.begin(), distances.end(), labels.begin());
-            return {12, 0, 0, 0, 0};
-        }
-        uint32_t reversals = 0;
-        const std::vector<uint32_t> walk = first_walk(from, distances, reversals);
-        if (route.size() < walk.size()) return {14, 0, 0, 0, 0};
-        std::copy(walk.begin(), walk.end(), route.begin());
-        std::copy(distances.begin(), distances.end(), labels.begin());
-        return {0, 0, first_distance + distances[from], reversals, static_cast<uint32_t>(walk.size())};
-    }
-
-  private:
-    const Yard &yard;
-    const Query &query;
-    const uint32_t goal;
-    std::vector<Steps> onward, backward;
-
-    bool may_enter(uint32_t s) const { return s != query.finish && s != query.start && yard.sections[s].is_free(); }
-    bool is_end(uint32_t arrival) const { return arrival / 2 != query.finish && yard.point_of(arrival) == goal; }
-
-    // One question for each forbidden turn that a step could take.
-    std::vector<char> reversible_points() const {
-        std::vector<char> reversible(yard.points.size());
-        PullOuts pull_outs(yard);
-        for (uint32_t p = 0; p < yard.points.size(); p++) {
-            if (yard.points[p].turn == none) continue;
-            const auto [c, s] = yard.turns[yard.points[p].turn];
-            reversible[p] = (may_enter(c) || may_enter(s)) && pull_outs.exists(c, p, s, query.length);
-        }
-        return reversible;
-    }
-
-    void find_steps() {
-        const std::vector<char> reversible = reversible_points();
-        for (uint32_t a = 0; a < onward.size(); a++) {
-            const uint32_t p = yard.point_of(a);
-            const Point &point = yard.points[p];
-            for (uint32_t i = 0; i < point.count; i++) {
-                const uint32_t s = point.sections[i];
-                if (s == a / 2 || !may_enter(s)) continue;
-                const bool reversal = yard.is_forbidden(p, a / 2, s);
-                if (reversal && !reversible[p]) continue;
-                const uint32_t b = yard.arrival_at(s, yard.sections[s].far(p));
-                const uint32_t cost = yard.sections[s].length + (reversal ? query.length : 0);
-                onward[a].add(b, cost);
-                backward[b].add(a, cost);
-            }
-        }
-    }
-
-    std::vector<uint32_t> remaining(uint32_t room) const {
-        using Entry = std::pair<uint32_t, uint32_t>; // distance, arrival
-        std::vector<uint32_t> distances(onward.size(), none);
-        std::priority_queue<Entry, std::vector<Entry>, std::greater<>> waiting;
-        for (const uint32_t s : yard.points[goal].sections)
-            if (s != none && s != query.finish) {
-                const uint32_t end = yard.arrival_at(s, goal);
-                distances[end] = room;
-                waiting.push({room, end});
-            }
-        while (!waiting.empty()) {
-            const auto [distance, b] = waiting.top();
-            waiting.pop();
-            if (distances[b] < distance) continue;
-            for (const auto &[a, cost] : backward[b])
-                if (distance + cost < distances[a]) {
-                    distances[a] = distance + cost;
-                    waiting.push({distances[a], a});
-                }
-        }
-        return distances;
-    }
-
-    std::vector<uint32_t> first_walk(uint32_t a, const std::vector<uint32_t> &distances, uint32_t &reversals) const {
-        std::vector<uint32_t> walk;
-        while (!is_end(a)) {
-            const Step *next = onward[a].begin();
-            while (distances[next->arrival] == none || distances[next->arrival] + next->cost != distances[a]) next++;
-            reversals += yard.is_forbidden(yard.point_of(a), a / 2, next->arrival / 2);
-            a = next->arrival;
-            walk.push_back(a);
-        }
-        return walk;
-    }
-};
-
 // Refusals 7 to 10, and the finish room.
 inline uint32_t check_train(const Yard &yard, const Query &query, uint32_t &room) {
     const auto is_destination_end = [&](uint32_t s, uint32_t end) {
@@ -294,17 +180,52 @@ inline uint32_t check_train(const Yard &yard, const Query &query, uint32_t &room
     return room < query.length ? 10 : 0;
 }
 
-// The answer of finder_search.
-inline finder_answer search(const Query &query, std::vector<uint32_t> &route, std::vector<uint32_t> &labels) {
+// What the rules of one query say of sections and arrivals. Refusals 1 to 11 are found while it is made.
+class Asked {
+  public:
     Yard yard;
-    if (const Refusal refusal = yard.read(query.plan); refusal.number != 0)
-        return {refusal.number, refusal.place, 0, 0, 0};
-    uint32_t room = 0;
-    if (const uint32_t number = check_train(yard, query, room); number != 0) return {number, 0, 0, 0, 0};
-    if (labels.size() != 2 * yard.sections.size()) return {11, 0, 0, 0, 0};
-    const Section &start = yard.sections[query.start];
-    const uint32_t first_distance = query.start_end == 0 ? start.free_a : start.free_b;
-    return Search(yard, query).run(room, first_distance, route, labels);
-}
+    const Query &query;
+    finder_answer refused{};
+    uint32_t room = 0, goal = 0;
+
+    Asked(const Query &query, size_t labels) : query(query) {
+        if (const Refusal refusal = yard.read(query.plan); refusal.number != 0)
+            refused = {refusal.number, refusal.place, 0, 0, 0};
+        else if (const uint32_t number = check_train(yard, query, room); number != 0)
+            refused.refusal = number;
+        else if (labels != 2 * yard.sections.size())
+            refused.refusal = 11;
+        else
+            goal = yard.point_of(2 * query.finish + query.finish_end);
+    }
+
+    uint32_t arrivals() const { return static_cast<uint32_t>(2 * yard.sections.size()); }
+    uint32_t from() const { return 2 * query.start + query.start_end; }
+    uint32_t first_distance() const {
+        const Section &start = yard.sections[query.start];
+        return query.start_end == 0 ? start.free_a : start.free_b;
+    }
+    bool may_enter(uint32_t s) const { return s != query.finish && s != query.start && yard.sections[s].is_free(); }
+    bool is_end(uint32_t arrival) const { return arrival / 2 != query.finish && yard.point_of(arrival) == goal; }
+
+    std::vector<uint32_t> ends() const {
+        std::vector<uint32_t> all;
+        const Point &point = yard.points[goal];
+        for (uint32_t i = 0; i < point.count; i++)
+            if (point.sections[i] != query.finish) all.push_back(yard.arrival_at(point.sections[i], goal));
+        return all;
+    }
+
+    // Labels and walk into the lent buffers, or what is refused then.
+    finder_answer written(const std::vector<uint32_t> &distances, const std::vector<uint32_t> &walk, uint32_t reversals,
+                          std::vector<uint32_t> &route, std::vector<uint32_t> &labels) const {
+        const bool found = distances[from()] != none;
+        if (found && route.size() < walk.size()) return {14, 0, 0, 0, 0};
+        std::copy(distances.begin(), distances.end(), labels.begin());
+        if (!found) return {12, 0, 0, 0, 0};
+        std::copy(walk.begin(), walk.end(), route.begin());
+        return {0, 0, first_distance() + distances[from()], reversals, static_cast<uint32_t>(walk.size())};
+    }
+};
 
 } // namespace baseline
