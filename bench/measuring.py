@@ -153,7 +153,7 @@ def counted_by_log(program, words):
 
 NAMED = re.compile(r"(c?)fn=\((\d+)\)(?: ([^']*))?")
 COST = re.compile(r"[\d+*-]\S* (\d+)$")
-FILL = re.compile(r"_*mem(set|cpy|move)")
+FILL = re.compile(r"\w*mem(set|cpy|move)")
 
 
 def costs(dump):
