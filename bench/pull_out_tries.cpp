@@ -2,7 +2,8 @@
 // one above. bench/pull_out_table builds and runs this and prints the table.
 //   pull_out_tries            every case in a process of its own: number, family, whether it is to be linear,
 //                             size, sections, length, answer, nanoseconds
-//   pull_out_tries NUMBERS    the cases of these numbers, each counted under callgrind as a dump of its own
+//   pull_out_tries NUMBER     the case of this number, once, for counting instructions
+#include "count_marks.h"
 #include "finder.h"
 #include "yards.h"
 #include <chrono>
@@ -10,7 +11,6 @@
 #include <cstdlib>
 #include <sys/wait.h>
 #include <unistd.h>
-#include <valgrind/callgrind.h>
 
 namespace {
 
@@ -77,21 +77,16 @@ void time_one(size_t number, Case &one) {
     if (!WIFEXITED(status)) print(number, one, "none in time", seconds * 1'000'000'000ll);
 }
 
-void count_one(size_t number, Case &one) {
-    CALLGRIND_TOGGLE_COLLECT;
+void count_one(Case &one) {
+    count_begins();
     one.call();
-    CALLGRIND_TOGGLE_COLLECT;
-    CALLGRIND_DUMP_STATS_AT(std::to_string(number).c_str());
+    count_ends();
 }
 
 } // namespace
 
 int main(int argc, char **argv) {
     std::vector<Case> all = cases();
-    if (argc == 1)
-        for (size_t number = 0; number < all.size(); number++) time_one(number, all[number]);
-    for (int i = 1; i < argc; i++) {
-        const size_t number = std::strtoul(argv[i], nullptr, 10);
-        if (number < all.size()) count_one(number, all[number]);
-    }
+    if (argc > 1) return count_one(all.at(std::strtoul(argv[1], nullptr, 10))), 0;
+    for (size_t number = 0; number < all.size(); number++) time_one(number, all[number]);
 }

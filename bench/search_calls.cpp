@@ -1,16 +1,9 @@
 // Calls of one side, for counting instructions.
 //   search_calls SIDE YARD SIZE HALF EACH    the queries of a yard, so many of each length; prints the number of calls
-// What lies between count_begins and count_ends is counted: callgrind is told by a request, a log of addresses tells it by
-// the addresses of the two.
+#include "count_marks.h"
 #include "sides.h"
 #include <cstdio>
 #include <cstdlib>
-#include <valgrind/callgrind.h>
-
-extern "C" {
-[[gnu::noinline]] void count_begins() { CALLGRIND_TOGGLE_COLLECT; }
-[[gnu::noinline]] void count_ends() { CALLGRIND_TOGGLE_COLLECT; }
-}
 
 namespace {
 
