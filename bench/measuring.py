@@ -1,5 +1,6 @@
 """What the scripts of bench/ share: building a program against the library, running it on either architecture, and counting
 the instructions of its functions."""
+import argparse
 import bisect
 import collections
 import os
@@ -7,7 +8,6 @@ import pathlib
 import platform
 import re
 import subprocess
-import sys
 
 ROOT = pathlib.Path(__file__).resolve().parent.parent
 OUT = ROOT / "target/bench"
@@ -33,9 +33,18 @@ def emulator(*settings):
     return [qemu, "-cpu", "max,-erms,-fsrm", *settings, "-L", "/usr/x86_64-linux-gnu"]
 
 
-def build_library():
-    """Unless the words of the command ask for the library as it was last built."""
-    if "--as-built" not in sys.argv[1:]:
+def words_asked(usage, *options):
+    """The words of a command, read before anything is built; options are (name, settings)."""
+    words = argparse.ArgumentParser(usage=usage)
+    for option, settings in options:
+        words.add_argument(option, **settings)
+    words.add_argument("--as-built", action="store_true")
+    return words.parse_args()
+
+
+def build_library(asked):
+    """Unless the library is asked for as it was last built."""
+    if not asked.as_built:
         run("rt", "staticlib", "finder", capture_output=True)
 
 
