@@ -171,7 +171,7 @@ finder_answer finder_check_plan(uint32_t points, const uint32_t *sections, size_
  *               and the number of steps, which may be 0
  *   12          labels are written as on success; route is kept
  *   all others  both buffers are kept
- * It looks for pull-outs: what finder_pull_out takes of stack and time holds here too, docs/LIMITS.md.
+ * It looks for pull-outs and takes up to 2.3 MB of stack; what holds of finder_pull_out's time holds here too, docs/LIMITS.md.
  * Proved, with finder_search's contract in crates/finder/src/lib.rt, in crates/rules/proofs:
  *   a walk handed out is admissible, none is shorter, and among equals it is the first by section numbers (handed-out-walk,
  *   handed-out-shortest, handed-out-first); total, reversals and steps are its own (handed-out-numbers); 12 is given exactly when 1 to 11
@@ -229,7 +229,7 @@ finder_pull finder_pull_out(uint32_t points, const uint32_t *sections, size_t se
  *   19                     with claim 1 the first distance and the start label are not the list's total; with claim 0 the start
  *                          label is not FINDER_NONE
  * Afterwards: nothing is written. An accepted walk gets its total, reversals and steps, an accepted "no route" zeros. No sum wraps.
- * It looks for pull-outs: what finder_pull_out takes of stack and time holds here too, docs/LIMITS.md.
+ * It looks for pull-outs and takes up to 2.3 MB of stack; what holds of finder_pull_out's time holds here too, docs/LIMITS.md.
  * Proved, whoever wrote the sheet, with finder_check_sheet's contract in crates/finder/src/lib.rt, in crates/sheet/proofs/Demand.antt:
  *   an accepted list is a shortest admissible walk (accepted-is-shortest), and an accepted "no route" means that there is none
  *   (accepted-no-route); the remaining distances with any shortest walk (shortest-is-accepted), or with "no route" where there is none
