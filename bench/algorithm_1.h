@@ -1,7 +1,8 @@
-// Document 003's Algorithm 1 for the work of finder_search. As there, Dijkstra's algorithm keeps a mark for each arrival, goes from
-// point to point of the plan itself, and asks for a pull-out when a mark would fall by a reversal, once for each forbidden turn.
-// What differs: it runs backwards from the finish and until no mark is left, since all remaining distances are wanted; its
-// depth-first search tries everything; the heap is binary; the plan is checked, and of the shortest walks the first is taken.
+// Document 003's Algorithm 1 for the work of finder_search. As there, Dijkstra's algorithm keeps a mark for each
+// arrival, goes from point to point of the plan itself, and asks for a pull-out when a mark would fall by a reversal,
+// once for each forbidden turn. What differs: it runs backwards from the finish and until no mark is left, since all
+// remaining distances are wanted; its depth-first search tries everything; the heap is binary; the plan is checked, and
+// of the shortest walks the first is taken.
 #pragma once
 #include "baseline_yard.h"
 #include <queue>

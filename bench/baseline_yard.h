@@ -1,5 +1,5 @@
-// What the baselines share: the plan check, the sections of each point, the check of the train, and pull-outs by depth-first
-// search. Nothing is kept from one query to the next.
+// What the baselines share: the plan check, the sections of each point, the check of the train, and pull-outs by
+// depth-first search. Nothing is kept from one query to the next.
 #pragma once
 #include "finder.h"
 #include "search_queries.h"

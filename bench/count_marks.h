@@ -1,5 +1,5 @@
-// What lies between a call of count_begins and one of count_ends is counted: callgrind is told by a request, and a log of
-// addresses tells it by the addresses of the two.
+// What lies between a call of count_begins and one of count_ends is counted: callgrind is told by a request, and a log
+// of addresses tells it by the addresses of the two.
 #pragma once
 #include <valgrind/callgrind.h>
 

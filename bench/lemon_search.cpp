@@ -1,5 +1,5 @@
-// The graph has a node for each arrival and one behind the finish. Its arcs go against the steps, so that one run from the
-// finish gives all remaining distances.
+// The graph has a node for each arrival and one behind the finish. Its arcs go against the steps, so that one run from
+// the finish gives all remaining distances.
 #include "lemon_search.h"
 #include <lemon/dijkstra.h>
 #include <lemon/smart_graph.h>
@@ -58,7 +58,8 @@ void LemonSearch::add_steps(uint32_t arrival, const std::vector<char> &reversibl
         const bool reversal = yard.is_forbidden(p, c, s);
         if (reversal && !reversible[p]) continue;
         const uint32_t after = yard.arrival_at(s, yard.sections[s].far(p));
-        graph->arc(Graph::node(after), Graph::node(arrival), yard.sections[s].length + (reversal ? asked.query.length : 0));
+        graph->arc(Graph::node(after), Graph::node(arrival),
+                   yard.sections[s].length + (reversal ? asked.query.length : 0));
     }
 }
 

@@ -1,5 +1,5 @@
-// A search with LEMON's Dijkstra over the graph of arrivals, for the work of finder_search. LEMON is older than C++20, so that
-// bench/lemon_search.cpp is compiled on its own.
+// A search with LEMON's Dijkstra over the graph of arrivals, for the work of finder_search. LEMON is older than C++20,
+// so that bench/lemon_search.cpp is compiled on its own.
 #pragma once
 #include "baseline_yard.h"
 #include <memory>

@@ -1,5 +1,5 @@
-// Queries for measuring the search: trains of 20 m to 500 m, in yards that are empty or half occupied. All numbers are drawn with
-// fixed seeds.
+// Queries for measuring the search: trains of 20 m to 500 m, in yards that are empty or half occupied. All numbers are
+// drawn with fixed seeds.
 #pragma once
 #include "search_yards.h"
 #include <algorithm>
@@ -38,8 +38,8 @@ inline void occupy_half(Plan &plan, Draw &draw) {
     }
 }
 
-// A train of this length on a section drawn at random, to another section with room for it; both ends drawn. None where many
-// draws have not met such sections.
+// A train of this length on a section drawn at random, to another section with room for it; both ends drawn. None where
+// many draws have not met such sections.
 inline std::optional<Query> draw_query(const Plan &plan, uint32_t length, Draw &draw) {
     const std::vector<uint32_t> all = destinations_of(plan);
     const auto any = [&] { return all[draw.below(static_cast<uint32_t>(all.size()))]; };

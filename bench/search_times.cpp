@@ -1,10 +1,9 @@
 // The time of every side on the largest yard of every family. Prints rows of fields:
 //   yard, family, size, whether half is occupied, points, sections, turns: each yard, also those that are not timed
-//   times, side, whether there is a route, queries, median and worst over these queries in nanoseconds: of the yard before
-//   search_times            all of that
-//   search_times untimed    the yards only
-// On every yard the answers are compared; ends with status 1 where that of a side that searches is not the library's, or the
-// library refuses its own sheet.
+//   times, side, whether there is a route, queries, median and worst over these queries in nanoseconds: of the yard
+//   before search_times            all of that search_times untimed    the yards only
+// On every yard the answers are compared; ends with status 1 where that of a side that searches is not the library's,
+// or the library refuses its own sheet.
 #include "sides.h"
 #include <cstdio>
 #include <ctime>
@@ -69,10 +68,10 @@ bool agrees(const Side &side, const Query &query, const Outcome &expected) {
     side.ready(query)(outcome);
     const bool agrees = side.searches ? outcome == expected : outcome.answer.refusal == FINDER_OK;
     if (!agrees)
-        std::fprintf(stderr, "%s: %u sections, L = %u, from (%u, %u) to (%u, %u): refusal %u at %u, the search %u at %u\n",
-                     side.name, query.plan.count(), query.length, query.start, query.start_end, query.finish,
-                     query.finish_end, outcome.answer.refusal, outcome.answer.place, expected.answer.refusal,
-                     expected.answer.place);
+        std::fprintf(
+            stderr, "%s: %u sections, L = %u, from (%u, %u) to (%u, %u): refusal %u at %u, the search %u at %u\n",
+            side.name, query.plan.count(), query.length, query.start, query.start_end, query.finish, query.finish_end,
+            outcome.answer.refusal, outcome.answer.place, expected.answer.refusal, expected.answer.place);
     return agrees;
 }
 

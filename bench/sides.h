@@ -1,5 +1,5 @@
-// The sides that are measured: the library's calls, and the programs that they are compared with. A side makes ready what it
-// prepares before its call, and then answers a query into an outcome.
+// The sides that are measured: the library's calls, and the programs that they are compared with. A side makes ready
+// what it prepares before its call, and then answers a query into an outcome.
 #pragma once
 #include "../cpp/second_search.h"
 #include "algorithm_1.h"
@@ -28,10 +28,10 @@ using Call = std::function<void(Outcome &)>;
 inline Call finder_ready(const Query &query) {
     return [&query](Outcome &outcome) {
         const Plan &plan = query.plan;
-        outcome.answer = finder_search(plan.points, plan.sections.data(), plan.sections.size(), plan.turns.data(),
-                                       plan.turns.size(), query.length, query.start, query.start_end, query.finish,
-                                       query.finish_end, outcome.route.data(), outcome.route.size(),
-                                       outcome.labels.data(), outcome.labels.size());
+        outcome.answer =
+            finder_search(plan.points, plan.sections.data(), plan.sections.size(), plan.turns.data(), plan.turns.size(),
+                          query.length, query.start, query.start_end, query.finish, query.finish_end,
+                          outcome.route.data(), outcome.route.size(), outcome.labels.data(), outcome.labels.size());
     };
 }
 
@@ -90,8 +90,8 @@ inline Call second_ready(const Query &query) {
 struct Side {
     const char *name;
     Call (*ready)(const Query &);
-    bool searches;                  // its outcome is to be that of finder_search
-    uint32_t sections_most = 1024;  // on larger yards it takes too long
+    bool searches;                 // its outcome is to be that of finder_search
+    uint32_t sections_most = 1024; // on larger yards it takes too long
 };
 
 inline const std::vector<Side> sides{

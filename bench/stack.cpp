@@ -1,6 +1,6 @@
-// What a call takes of the stack: each runs in a thread on a painted stack, and the paint that is gone is counted. The arrays of a
-// call have the size of the largest plan whatever the plan, so what counts is how deep the search for a pull-out goes.
-// Ends with status 1 where an answer is not the one expected, or a call takes 4 MB or more.
+// What a call takes of the stack: each runs in a thread on a painted stack, and the paint that is gone is counted. The
+// arrays of a call have the size of the largest plan whatever the plan, so what counts is how deep the search for a
+// pull-out goes. Ends with status 1 where an answer is not the one expected, or a call takes 4 MB or more.
 #include "../cpp/plan.h"
 #include "finder.h"
 #include <algorithm>
@@ -31,14 +31,15 @@ size_t used(std::function<void()> call) {
     pthread_t thread;
     pthread_create(&thread, &attributes, run, &call);
     pthread_join(thread, nullptr);
-    const unsigned char *gone = std::find_if(stack, stack + stack_size, [](unsigned char byte) { return byte != paint; });
+    const unsigned char *gone =
+        std::find_if(stack, stack + stack_size, [](unsigned char byte) { return byte != paint; });
     const auto clean = static_cast<size_t>(gone - stack);
     munmap(stack, stack_size);
     return stack_size - clean;
 }
 
-// A turn at point 0, and a line from there over so many points, each section 26 long. The last section of the line closes a
-// loop, so that a pull-out has as many sections as the line has points.
+// A turn at point 0, and a line from there over so many points, each section 26 long. The last section of the line
+// closes a loop, so that a pull-out has as many sections as the line has points.
 Plan line_behind_turn(uint32_t line, uint32_t c_from, uint32_t s_from) {
     Plan plan{768, {}, {}};
     plan.join(0, c_from, 26);
@@ -61,7 +62,8 @@ struct Asked {
     }
 };
 
-// The only walk goes from section x over c to point 0 and reverses there, onto s and to y. Four points are not on the line.
+// The only walk goes from section x over c to point 0 and reverses there, onto s and to y. Four points are not on the
+// line.
 struct Searched {
     static constexpr uint32_t line = 764;
     Plan plan = line_behind_turn(line, 764, 765);
@@ -73,9 +75,9 @@ struct Searched {
     Searched() { plan.occupy(x, 0, 0); }
 
     void search(uint32_t sections) {
-        answer = finder_search(plan.points, plan.sections.data(), plan.sections.size(), plan.turns.data(),
-                               plan.turns.size(), 26 * sections, x, 0, y, 0, route.data(), route.size(), labels.data(),
-                               labels.size());
+        answer =
+            finder_search(plan.points, plan.sections.data(), plan.sections.size(), plan.turns.data(), plan.turns.size(),
+                          26 * sections, x, 0, y, 0, route.data(), route.size(), labels.data(), labels.size());
     }
 
     void check(uint32_t sections) {
@@ -104,8 +106,10 @@ std::vector<Row> rows() {
         Searched searched;
         const size_t search = used([&] { searched.search(n); }) - thread_alone;
         const size_t check = used([&] { searched.check(n); }) - thread_alone;
-        all.push_back({"finder_search", n, search, searched.answer.refusal == FINDER_OK && searched.answer.reversals == 1});
-        all.push_back({"finder_check_sheet", n, check, searched.sheet.refusal == FINDER_OK && searched.sheet.reversals == 1});
+        all.push_back(
+            {"finder_search", n, search, searched.answer.refusal == FINDER_OK && searched.answer.reversals == 1});
+        all.push_back(
+            {"finder_check_sheet", n, check, searched.sheet.refusal == FINDER_OK && searched.sheet.reversals == 1});
     }
     return all;
 }
