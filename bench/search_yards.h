@@ -1,20 +1,10 @@
 // Yards for measuring the search, by size. Lengths are those of real yards, in decimetres: connecting sections of 200 to 1,500,
 // destinations of 3,000 to 7,000. All numbers are drawn with fixed seeds.
 #pragma once
+#include "../cpp/draw.h"
 #include "../cpp/paper_yard.h"
-#include <random>
 #include <stdexcept>
 #include <string>
-
-// The standard's distributions differ from library to library, so numbers are drawn by hand. Compilers differ in the order in
-// which they work out arguments, so no call has two that draw numbers or lay ways.
-struct Draw {
-    std::mt19937 numbers;
-
-    explicit Draw(uint32_t seed) : numbers(seed) {}
-    uint32_t below(uint32_t count) { return static_cast<uint32_t>(numbers() % count); }
-    uint32_t between(uint32_t low, uint32_t high) { return low + below(high - low + 1); }
-};
 
 // A way is a row of sections from switch to switch or to a dead end. The sections are laid once all ways are known, so that
 // a yard can be given an exact number of points.

@@ -1,23 +1,8 @@
-// Small plans full of loops, drawn at random, and the damage that the plan check has to find in them. The same seed gives the
-// same plans everywhere: no distribution of the standard library is used, and no two draws stand in one call.
+// Small plans full of loops, drawn at random, and the damage that the plan check has to find in them.
 #pragma once
+#include "draw.h"
 #include "plan.h"
-#include <random>
 #include <utility>
-
-class Draw {
-public:
-    explicit Draw(uint32_t seed) : engine_(seed) {}
-    // A number below n; n is small, so that the remainder does not matter.
-    uint32_t below(uint32_t n) { return static_cast<uint32_t>(engine_() % n); }
-    bool one_in(uint32_t n) { return below(n) == 0; }
-    template <class T> const T &of(const std::vector<T> &list) {
-        return list[below(static_cast<uint32_t>(list.size()))];
-    }
-
-private:
-    std::mt19937 engine_;
-};
 
 // Nothing on most sections, stock on some, others locked.
 inline void draw_stock(Draw &draw, Plan &plan, uint32_t section) {

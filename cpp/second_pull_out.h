@@ -1,12 +1,14 @@
 // A second program for the plan check (1 to 6) and for pull-outs (1 to 7, 15, 16, 14), written from document 01 alone. It
 // decides by the sentences of the document, not by a search with marks: it writes down every chained list of sections by
-// length, keeps those that pass every clause, and takes the smallest. For small plans only: its time is exponential in E.
+// length, keeps those that pass every clause, and takes the smallest. That is for small plans only: its time is exponential
+// in E. Larger ones are decided by lists that are given up once a clause is broken for good.
 #pragma once
 #include "plan.h"
 #include <algorithm>
 #include <array>
 #include <cstddef>
 #include <functional>
+#include <map>
 #include <optional>
 #include <set>
 #include <span>
@@ -35,11 +37,14 @@ struct Yard {
     uint64_t points;
     std::vector<Section> sections;
     std::vector<std::pair<uint64_t, uint64_t>> turns;
+    std::map<uint64_t, List> meeting; // the sections at each point
 
     explicit Yard(const Plan &plan) : points(plan.points) {
         const auto &n = plan.sections;
-        for (size_t i = 0; i + 6 <= n.size(); i += 6)
+        for (size_t i = 0; i + 6 <= n.size(); i += 6) {
+            for (uint32_t end : {n[i], n[i + 1]}) meeting[end].push_back(static_cast<uint32_t>(sections.size()));
             sections.push_back({n[i], n[i + 1], n[i + 2], n[i + 3], n[i + 4], n[i + 5]});
+        }
         for (size_t i = 0; i + 2 <= plan.turns.size(); i += 2) turns.emplace_back(plan.turns[i], plan.turns[i + 1]);
     }
 
@@ -49,66 +54,77 @@ struct Yard {
                            [&](auto turn) { return turn == std::pair(c, s) || turn == std::pair(s, c); });
     }
 
-    // The points that two sections of the plan share.
-    std::set<uint64_t> shared(uint64_t c, uint64_t s) const {
-        std::set<uint64_t> points;
+    // A point that two sections of the plan share. No two sections of a plan that is right share two.
+    std::optional<uint64_t> shared(uint64_t c, uint64_t s) const {
         for (uint64_t point : {sections[c].a, sections[c].b})
-            if (sections[s].at(point)) points.insert(point);
-        return points;
+            if (sections[s].at(point)) return point;
+        return std::nullopt;
     }
 };
 
-inline bool breaks_its_rule(const Yard &yard, const Section &s) {
+inline bool breaks_its_rule(const Yard &yard, size_t section) {
+    const Section &s = yard.sections[section];
     if (s.a >= yard.points || s.b >= yard.points || s.a == s.b) return true;
     if (s.length < 1 || s.length > 200000 || s.kind > 1) return true;
     return !s.free() && !(s.from_a + s.from_b < s.length);
 }
 
 inline bool same_points_as_earlier(const Yard &yard, size_t s) {
-    const auto ends = [&](size_t i) { return std::minmax(yard.sections[i].a, yard.sections[i].b); };
-    for (size_t i = 0; i < s; i++)
-        if (ends(i) == ends(s)) return true;
-    return false;
+    const Section &later = yard.sections[s];
+    return std::ranges::any_of(yard.meeting.at(later.a),
+                               [&](size_t i) { return i < s && yard.sections[i].at(later.b); });
 }
 
-inline bool wrong_at_point(const Yard &yard, uint64_t point) {
-    const auto here = std::count_if(yard.sections.begin(), yard.sections.end(), [&](auto &s) { return s.at(point); });
-    return here == 0 || here > 3;
+inline bool wrong_at_point(const Yard &yard, size_t point) {
+    const auto here = yard.meeting.find(point);
+    return here == yard.meeting.end() || here->second.size() > 3;
 }
 
 inline bool no_turn(const Yard &yard, size_t turn) {
     const auto [c, s] = yard.turns[turn];
     if (c >= yard.sections.size() || s >= yard.sections.size() || c == s) return true;
-    return yard.sections[c].kind == 1 || yard.sections[s].kind == 1 || yard.shared(c, s).empty();
+    return yard.sections[c].kind == 1 || yard.sections[s].kind == 1 || !yard.shared(c, s);
 }
 
 // No two sections join the same two points by now, so that two of them share one point at most.
 inline bool second_at_its_point(const Yard &yard, size_t turn) {
-    const auto point = [&](size_t i) { return *yard.shared(yard.turns[i].first, yard.turns[i].second).begin(); };
+    const auto point = [&](size_t i) { return yard.shared(yard.turns[i].first, yard.turns[i].second); };
     for (size_t i = 0; i < turn; i++)
         if (point(i) == point(turn)) return true;
     return false;
 }
 
-inline std::optional<size_t> lowest(size_t places, const std::function<bool(size_t)> &wrong) {
-    for (size_t place = 0; place < places; place++)
-        if (wrong(place)) return place;
-    return std::nullopt;
+// Refusals 2 to 6 in their order: what has places, how many there are, and whether the rule is broken at one, the rules before
+// it being kept.
+struct PlanRule {
+    uint32_t number;
+    size_t (*places)(const Yard &);
+    bool (*broken)(const Yard &, size_t);
+};
+
+inline constexpr std::array<PlanRule, 5> plan_rules{{
+    {2, [](const Yard &yard) { return yard.sections.size(); }, breaks_its_rule},
+    {3, [](const Yard &yard) { return yard.sections.size(); }, same_points_as_earlier},
+    {4, [](const Yard &yard) { return static_cast<size_t>(yard.points); }, wrong_at_point},
+    {5, [](const Yard &yard) { return yard.turns.size(); }, no_turn},
+    {6, [](const Yard &yard) { return yard.turns.size(); }, second_at_its_point},
+}};
+
+// Refusal 1.
+inline bool wrong_counts(const Plan &plan) {
+    const size_t sections = plan.sections.size() / 6, turns = plan.turns.size() / 2;
+    if (plan.points < 1 || plan.points > 768 || plan.sections.size() % 6 != 0 || plan.turns.size() % 2 != 0)
+        return true;
+    return sections < 1 || sections > 1024 || turns > 768;
 }
 
 // Refusals 1 to 6.
 inline Refusal check_plan(const Plan &plan) {
-    if (plan.points < 1 || plan.points > 768 || plan.sections.size() % 6 != 0 || plan.turns.size() % 2 != 0) return {1};
+    if (wrong_counts(plan)) return {1};
     const Yard yard(plan);
-    const size_t sections = yard.sections.size(), turns = yard.turns.size();
-    if (sections < 1 || sections > 1024 || turns > 768) return {1};
-    const auto at = [](size_t place) { return static_cast<uint32_t>(place); };
-    if (auto s = lowest(sections, [&](size_t i) { return breaks_its_rule(yard, yard.sections[i]); }))
-        return {2, at(*s)};
-    if (auto s = lowest(sections, [&](size_t i) { return same_points_as_earlier(yard, i); })) return {3, at(*s)};
-    if (auto p = lowest(yard.points, [&](size_t i) { return wrong_at_point(yard, i); })) return {4, at(*p)};
-    if (auto t = lowest(turns, [&](size_t i) { return no_turn(yard, i); })) return {5, at(*t)};
-    if (auto t = lowest(turns, [&](size_t i) { return second_at_its_point(yard, i); })) return {6, at(*t)};
+    for (const PlanRule &rule : plan_rules)
+        for (size_t place = 0; place < rule.places(yard); place++)
+            if (rule.broken(yard, place)) return {rule.number, static_cast<uint32_t>(place)};
     return {};
 }
 
@@ -127,6 +143,11 @@ inline std::vector<uint64_t> entries(const Yard &yard, uint64_t p, const List &l
     return points;
 }
 
+inline uint64_t end_of(const Yard &yard, uint64_t p, const List &list) {
+    for (uint32_t q : list) p = yard.sections[q].far(p);
+    return p;
+}
+
 template <class T> bool all_differ(const std::vector<T> &list) {
     return std::set<T>(list.begin(), list.end()).size() == list.size();
 }
@@ -140,6 +161,7 @@ inline uint64_t lengths_but_the_last(const Yard &yard, const List &list) {
 // The clauses of the document's sentence for a chained list of one or more sections, in its order. On a checked plan three of
 // them never decide an answer alone: of the sections at p only s can't be run onto from c; a point that is passed twice has
 // three sections, so that one of them occurs twice; and a list that goes on after L is reached comes after its own front.
+// Every clause but the last stays broken however the list goes on.
 struct Clause {
     std::string_view words;
     bool decides;
@@ -216,21 +238,50 @@ inline std::optional<List> first_pull_out(const Yard &yard, const Turning &turni
     return first;
 }
 
+// The same from lists that grow section by section, as far as no clause is broken for good.
+inline std::optional<List> grown_pull_out(const Yard &yard, const Turning &turning, size_t left_out = no_clause) {
+    std::optional<List> first;
+    const auto keeps = [&](size_t clause, const List &list) {
+        return clause == left_out || clauses[clause].holds(yard, turning, list);
+    };
+    const auto grow = [&](const List &list, uint64_t end, std::vector<List> &longer) {
+        for (uint32_t q : yard.meeting.at(end)) {
+            List next = list;
+            next.push_back(q);
+            bool goes_on = true;
+            for (size_t i = 0; i + 1 < clauses.size() && goes_on; i++) goes_on = keeps(i, next);
+            if (!goes_on) continue;
+            if (keeps(clauses.size() - 1, next) && (!first || next < *first)) first = next;
+            longer.push_back(next);
+        }
+    };
+    std::vector<List> longest{{}};
+    for (size_t length = 0; length < yard.sections.size() && !longest.empty(); length++) {
+        std::vector<List> longer;
+        for (const List &list : longest) grow(list, end_of(yard, turning.p, list), longer);
+        longest = std::move(longer);
+    }
+    return first;
+}
+
 struct Question {
     uint32_t length, arrival, section;
 };
 
-// What is asked, where it passes 1 to 7 and 15.
-inline Refusal check_question(const Plan &plan, const Question &question, Turning &turning) {
-    if (const Refusal refusal = check_plan(plan); refusal.number != 0) return refusal;
+// What is asked, where it passes 7 and 15, over a yard that passes 1 to 6.
+inline Refusal check_question(const Yard &yard, const Question &question, Turning &turning) {
     if (question.length < 1 || question.length > 20000) return {7};
-    const Yard yard(plan);
     if (question.arrival >= 2 * yard.sections.size() || question.section >= yard.sections.size()) return {15};
     const uint64_t c = question.arrival / 2;
     const uint64_t p = question.arrival % 2 == 0 ? yard.sections[c].a : yard.sections[c].b;
-    if (!yard.forbidden(c, question.section) || !yard.shared(c, question.section).count(p)) return {15};
+    if (!yard.forbidden(c, question.section) || yard.shared(c, question.section) != p) return {15};
     turning = {question.length, c, p, question.section};
     return {};
+}
+
+inline Refusal check_question(const Plan &plan, const Question &question, Turning &turning) {
+    const Refusal refusal = check_plan(plan);
+    return refusal.number != 0 ? refusal : check_question(Yard(plan), question, turning);
 }
 
 struct Answer {
@@ -238,15 +289,20 @@ struct Answer {
     List buffer; // the lent list at exit
 };
 
-inline Answer pull_out(const Plan &plan, const Question &question, List buffer) {
-    Turning turning{};
-    if (const Refusal r = check_question(plan, question, turning); r.number != 0) return {r.number, r.place, 0, buffer};
-    const Yard yard(plan);
-    const auto list = first_pull_out(yard, turning, chained_lists(yard, turning.p, Twice::left_out));
+// The answer where 1 to 7 and 15 do not apply.
+inline Answer answer_with(const std::optional<List> &list, List buffer) {
     if (!list) return {16, 0, 0, buffer};
     if (list->size() > buffer.size()) return {14, 0, 0, buffer};
     std::copy(list->begin(), list->end(), buffer.begin());
     return {0, 0, static_cast<uint32_t>(list->size()), buffer};
+}
+
+inline Answer pull_out(const Plan &plan, const Question &question, List buffer) {
+    Turning turning{};
+    if (const Refusal r = check_question(plan, question, turning); r.number != 0) return {r.number, r.place, 0, buffer};
+    const Yard yard(plan);
+    return answer_with(first_pull_out(yard, turning, chained_lists(yard, turning.p, Twice::left_out)),
+                       std::move(buffer));
 }
 
 } // namespace second

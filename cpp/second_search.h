@@ -1,10 +1,10 @@
 // A second program for the search (1 to 14), written from document 01 alone. It lists every admissible step by the
 // document's sentence, with pull-outs decided by their clauses; takes up walks from the start in the order of cost and list
 // of sections; and finds the remaining distances over walks of no step, of one step at most, of two, and so on. For small
-// plans, or short trains: a pull-out's time is exponential in E and in L.
+// plans, or short trains: a pull-out's time is exponential in E and in L. With lists that grow it is exponential in the number
+// of ways to run on over a train's length, which is small on yards as they are built.
 #pragma once
 #include "second_pull_out.h"
-#include <map>
 
 namespace second {
 
@@ -36,10 +36,8 @@ inline bool no_destination(const Yard &yard, uint32_t section, uint32_t end) {
     return section >= yard.sections.size() || end > 1 || yard.sections[section].kind == 0;
 }
 
-// Refusals 1 to 11.
-inline Refusal check_query(const Plan &plan, const Query &query, size_t labels) {
-    if (const Refusal refusal = check_plan(plan); refusal.number != 0) return refusal;
-    const Yard yard(plan);
+// Refusals 7 to 11, over a yard that passes 1 to 6.
+inline Refusal check_query(const Yard &yard, const Query &query, size_t labels) {
     if (query.length < 1 || query.length > 20000) return {7};
     if (no_destination(yard, query.start, query.start_end)) return {8};
     if (stock(yard.sections[query.start]) < static_cast<int64_t>(query.length)) return {8};
@@ -50,13 +48,22 @@ inline Refusal check_query(const Plan &plan, const Query &query, size_t labels) 
     return {};
 }
 
+// Refusals 1 to 11.
+inline Refusal check_query(const Plan &plan, const Query &query, size_t labels) {
+    const Refusal refusal = check_plan(plan);
+    return refusal.number != 0 ? refusal : check_query(Yard(plan), query, labels);
+}
+
 // Which reversals a plan has pull-outs for. The chained lists depend on the ends of sections alone, so they serve all stock.
+enum class Lists { chained, grown };
+
 class PullOuts {
 public:
-    explicit PullOuts(const Plan &plan) : ends_(plan) {}
+    explicit PullOuts(const Plan &plan, Lists lists = Lists::chained) : ends_(plan), lists_(lists) {}
 
     // A pull-out has at most L sections: the lengths of all but the last sum to less than L, and each is 1 or more.
     bool exist(const Yard &yard, const Turning &turning, size_t left_out = no_clause) {
+        if (lists_ == Lists::grown) return grown_pull_out(yard, turning, left_out).has_value();
         const auto [lists, fresh] = chained_.try_emplace({turning.p, turning.L});
         if (fresh) lists->second = chained_lists(ends_, turning.p, Twice::left_out, turning.L);
         return first_pull_out(yard, turning, lists->second, left_out).has_value();
@@ -64,6 +71,7 @@ public:
 
 private:
     Yard ends_;
+    Lists lists_;
     std::map<std::pair<uint64_t, uint64_t>, std::vector<List>> chained_;
 };
 
@@ -111,11 +119,16 @@ struct Rules {
     Rules(const Plan &plan, const Query &asked, PullOuts &pull_outs, Rule without = no_rule)
         : yard(plan), query(asked), left_out(without) {
         for (uint32_t from = 0; from < arrivals(); from++)
-            for (uint32_t s = 0; s < yard.sections.size(); s++)
+            for (uint32_t s : yard.meeting.at(point_of(yard, from)))
                 if (const auto step = step_onto(from, s, pull_outs)) steps.push_back(*step);
     }
 
     uint32_t arrivals() const { return static_cast<uint32_t>(2 * yard.sections.size()); }
+    // The steps stand in the order of the arrivals that they go from.
+    std::span<const Step> steps_from(uint32_t arrival) const {
+        const auto found = std::ranges::equal_range(steps, arrival, {}, &Step::from);
+        return {found.begin(), found.end()};
+    }
     uint32_t start() const { return 2 * query.start + query.start_end; }
     uint64_t room() const { return finish_room(yard, query); }
     uint64_t first_distance() const { return yard.sections[query.start].free_from(point_of(yard, start())); }
@@ -174,8 +187,7 @@ inline std::optional<Walk> first_shortest(const Rules &rules) {
         const uint32_t arrival = walk.last(rules.start());
         if (!reached.insert(arrival).second) continue;
         if (rules.ends(arrival)) return walk;
-        for (const Step &step : rules.steps)
-            if (step.from == arrival) waiting.insert(walk.then(step));
+        for (const Step &step : rules.steps_from(arrival)) waiting.insert(walk.then(step));
     }
     return std::nullopt;
 }
@@ -189,8 +201,7 @@ inline std::vector<Walk> all_walks(const Rules &rules, uint32_t from, size_t mos
         for (const Walk &walk : longest) {
             const uint32_t arrival = walk.last(from);
             if (rules.ends(arrival)) ending.push_back(walk);
-            for (const Step &step : rules.steps)
-                if (step.from == arrival) longer.push_back(walk.then(step));
+            for (const Step &step : rules.steps_from(arrival)) longer.push_back(walk.then(step));
         }
         longest = std::move(longer);
     }
@@ -217,8 +228,8 @@ inline std::vector<uint64_t> remaining_distances(const Rules &rules) {
 // remaining distance, so this comes to an end.
 inline uint64_t shortest_walks(const Rules &rules, const std::vector<uint64_t> &remaining, uint32_t arrival) {
     uint64_t walks = rules.ends(arrival) && remaining[arrival] == rules.room();
-    for (const Step &step : rules.steps)
-        if (step.from == arrival && remaining[step.to] != none && remaining[arrival] == step.cost + remaining[step.to])
+    for (const Step &step : rules.steps_from(arrival))
+        if (remaining[step.to] != none && remaining[arrival] == step.cost + remaining[step.to])
             walks += shortest_walks(rules, remaining, step.to);
     return walks;
 }
@@ -231,17 +242,18 @@ struct SearchAnswer {
 };
 
 // The buffers are those at entry.
-inline SearchAnswer search(const Plan &plan, const Query &query, List route, List labels, PullOuts &pull_outs,
-                           Rule left_out = no_rule) {
-    const auto refused = [&](const Refusal &r) { return SearchAnswer{r.number, r.place, 0, 0, 0, route, labels}; };
-    if (const Refusal refusal = check_query(plan, query, labels.size()); refusal.number != 0) return refused(refusal);
-    const Rules rules(plan, query, pull_outs, left_out);
+inline SearchAnswer refused(const Refusal &refusal, const List &route, const List &labels) {
+    return {refusal.number, refusal.place, 0, 0, 0, route, labels};
+}
+
+// The answer where 1 to 11 do not apply.
+inline SearchAnswer answer_by(const Rules &rules, List route, List labels) {
     const auto remaining = remaining_distances(rules);
     const auto walk = first_shortest(rules);
-    if (walk && walk->arrivals.size() > 2048) return refused({13});
-    if (walk && walk->arrivals.size() > route.size()) return refused({14});
+    if (walk && walk->arrivals.size() > 2048) return refused({13}, route, labels);
+    if (walk && walk->arrivals.size() > route.size()) return refused({14}, route, labels);
     std::copy(remaining.begin(), remaining.end(), labels.begin());
-    if (!walk) return refused({12});
+    if (!walk) return refused({12}, route, labels);
     std::copy(walk->arrivals.begin(), walk->arrivals.end(), route.begin());
     return {0,
             0,
@@ -250,6 +262,13 @@ inline SearchAnswer search(const Plan &plan, const Query &query, List route, Lis
             static_cast<uint32_t>(walk->arrivals.size()),
             route,
             labels};
+}
+
+inline SearchAnswer search(const Plan &plan, const Query &query, List route, List labels, PullOuts &pull_outs,
+                           Rule left_out = no_rule) {
+    const Refusal refusal = check_query(plan, query, labels.size());
+    if (refusal.number != 0) return refused(refusal, route, labels);
+    return answer_by(Rules(plan, query, pull_outs, left_out), std::move(route), std::move(labels));
 }
 
 inline SearchAnswer search(const Plan &plan, const Query &query, List route, List labels) {

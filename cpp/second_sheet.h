@@ -22,9 +22,9 @@ inline std::optional<SheetAnswer> walk_of(const Rules &rules, const List &list) 
     SheetAnswer walk{0, 0, rules.first_distance() + rules.room(), 0, list.size()};
     uint32_t at = rules.start();
     for (uint32_t next : list) {
-        const auto step = std::find_if(rules.steps.begin(), rules.steps.end(),
-                                       [&](const Step &step) { return step.from == at && step.to == next; });
-        if (step == rules.steps.end()) return std::nullopt;
+        const auto steps = rules.steps_from(at);
+        const auto step = std::ranges::find(steps, next, &Step::to);
+        if (step == steps.end()) return std::nullopt;
         walk.total += step->cost;
         walk.reversals += step->reverses;
         at = next;
@@ -44,9 +44,8 @@ inline bool at_most(uint64_t label, uint64_t cost, uint64_t after) {
 inline bool breaks_a_label_rule(const Rules &rules, const List &labels, uint32_t arrival) {
     const uint64_t label = labels[arrival];
     if (rules.ends(arrival) && !at_most(label, rules.room(), 0)) return true;
-    return std::any_of(rules.steps.begin(), rules.steps.end(), [&](const Step &step) {
-        return step.from == arrival && !at_most(label, step.cost, labels[step.to]);
-    });
+    return std::ranges::any_of(rules.steps_from(arrival),
+                               [&](const Step &step) { return !at_most(label, step.cost, labels[step.to]); });
 }
 
 // Refusals 17 to 19, for a query that passes 1 to 11 with these labels.
