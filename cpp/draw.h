@@ -1,5 +1,5 @@
-// Numbers drawn at random. The same seed gives the same numbers everywhere: no distribution of the standard library is used.
-// Compilers differ in the order in which they work out arguments, so no call has two that draw.
+// Numbers drawn at random. The same seed gives the same numbers everywhere: no distribution of the standard library is
+// used. Compilers differ in the order in which they work out arguments, so no call has two that draw.
 #pragma once
 #include <cstdint>
 #include <random>

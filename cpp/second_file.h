@@ -1,5 +1,5 @@
-// A second reader of yard files (20, 14), written from document 01 alone. It cuts the whole file into fields first, then
-// judges each field by the sentences of the document, and only then takes numbers out of them.
+// A second reader of yard files (20, 14), written from document 01 alone. It cuts the whole file into fields first,
+// then judges each field by the sentences of the document, and only then takes numbers out of them.
 #pragma once
 #include "second_pull_out.h"
 #include <cstdint>

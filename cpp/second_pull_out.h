@@ -238,11 +238,12 @@ inline std::optional<List> first_pull_out(const Yard &yard, const Turning &turni
     return first;
 }
 
-// The same from lists that grow section by section, as far as no clause is broken for good.
-inline std::optional<List> grown_pull_out(const Yard &yard, const Turning &turning, size_t left_out = no_clause) {
+// The same from lists that grow section by section, as far as no clause is broken for good; several clauses can be left out.
+inline std::optional<List> grown_pull_out(const Yard &yard, const Turning &turning,
+                                          const std::set<size_t> &left_out = {}) {
     std::optional<List> first;
     const auto keeps = [&](size_t clause, const List &list) {
-        return clause == left_out || clauses[clause].holds(yard, turning, list);
+        return left_out.contains(clause) || clauses[clause].holds(yard, turning, list);
     };
     const auto grow = [&](const List &list, uint64_t end, std::vector<List> &longer) {
         for (uint32_t q : yard.meeting.at(end)) {

@@ -63,7 +63,7 @@ public:
 
     // A pull-out has at most L sections: the lengths of all but the last sum to less than L, and each is 1 or more.
     bool exist(const Yard &yard, const Turning &turning, size_t left_out = no_clause) {
-        if (lists_ == Lists::grown) return grown_pull_out(yard, turning, left_out).has_value();
+        if (lists_ == Lists::grown) return grown_pull_out(yard, turning, {left_out}).has_value();
         const auto [lists, fresh] = chained_.try_emplace({turning.p, turning.L});
         if (fresh) lists->second = chained_lists(ends_, turning.p, Twice::left_out, turning.L);
         return first_pull_out(yard, turning, lists->second, left_out).has_value();
@@ -117,7 +117,10 @@ struct Rules {
     std::vector<Step> steps;
 
     Rules(const Plan &plan, const Query &asked, PullOuts &pull_outs, Rule without = no_rule)
-        : yard(plan), query(asked), left_out(without) {
+        : Rules(Yard(plan), asked, pull_outs, without) {}
+
+    Rules(Yard of, const Query &asked, PullOuts &pull_outs, Rule without = no_rule)
+        : yard(std::move(of)), query(asked), left_out(without) {
         for (uint32_t from = 0; from < arrivals(); from++)
             for (uint32_t s : yard.meeting.at(point_of(yard, from)))
                 if (const auto step = step_onto(from, s, pull_outs)) steps.push_back(*step);
@@ -178,14 +181,14 @@ struct Walk {
 
 // The smallest walk from the start to an end. Walks are taken up in their order, so the first to come to an arrival is the
 // smallest that does: a step costs more than nothing, and of two walks of one cost to one arrival neither is the front of
-// the other, so that their order stays whatever both go on with.
-inline std::optional<Walk> first_shortest(const Rules &rules) {
+// the other, so that their order stays whatever both go on with. Another key than the arrival makes it a wrong search.
+template <class Key = std::identity> std::optional<Walk> first_shortest(const Rules &rules, Key key = {}) {
     std::set<Walk> waiting{Walk{}};
-    std::set<uint32_t> reached;
+    std::set<uint64_t> reached;
     while (!waiting.empty()) {
         const Walk walk = waiting.extract(waiting.begin()).value();
         const uint32_t arrival = walk.last(rules.start());
-        if (!reached.insert(arrival).second) continue;
+        if (!reached.insert(key(arrival)).second) continue;
         if (rules.ends(arrival)) return walk;
         for (const Step &step : rules.steps_from(arrival)) waiting.insert(walk.then(step));
     }
@@ -247,9 +250,8 @@ inline SearchAnswer refused(const Refusal &refusal, const List &route, const Lis
 }
 
 // The answer where 1 to 11 do not apply.
-inline SearchAnswer answer_by(const Rules &rules, List route, List labels) {
+inline SearchAnswer answer_with(const Rules &rules, const std::optional<Walk> &walk, List route, List labels) {
     const auto remaining = remaining_distances(rules);
-    const auto walk = first_shortest(rules);
     if (walk && walk->arrivals.size() > 2048) return refused({13}, route, labels);
     if (walk && walk->arrivals.size() > route.size()) return refused({14}, route, labels);
     std::copy(remaining.begin(), remaining.end(), labels.begin());
@@ -262,6 +264,10 @@ inline SearchAnswer answer_by(const Rules &rules, List route, List labels) {
             static_cast<uint32_t>(walk->arrivals.size()),
             route,
             labels};
+}
+
+inline SearchAnswer answer_by(const Rules &rules, List route, List labels) {
+    return answer_with(rules, first_shortest(rules), std::move(route), std::move(labels));
 }
 
 inline SearchAnswer search(const Plan &plan, const Query &query, List route, List labels, PullOuts &pull_outs,

@@ -39,25 +39,32 @@ inline bool at_most(uint64_t label, uint64_t cost, uint64_t after) {
     return label != none && label <= cost + after;
 }
 
+// Rules of a sheet that can be left out, to see whether an answer hangs on them. Without "none is above" it is a number,
+// and without "equal" the start label may be less than it should.
+enum SheetRule { end_label, step_label, none_is_above, start_label_equal, no_sheet_rule };
+
 // "At an arrival at the finish point over a section other than y, the label is at most the finish room; for each admissible
 // step, the label before is at most the cost plus the label after."
-inline bool breaks_a_label_rule(const Rules &rules, const List &labels, uint32_t arrival) {
+inline bool breaks_a_label_rule(const Rules &rules, const List &labels, uint32_t arrival,
+                                SheetRule left_out = no_sheet_rule) {
     const uint64_t label = labels[arrival];
-    if (rules.ends(arrival) && !at_most(label, rules.room(), 0)) return true;
-    return std::ranges::any_of(rules.steps_from(arrival),
-                               [&](const Step &step) { return !at_most(label, step.cost, labels[step.to]); });
+    if (left_out != end_label && rules.ends(arrival) && !at_most(label, rules.room(), 0)) return true;
+    return std::ranges::any_of(rules.steps_from(arrival), [&](const Step &step) {
+        if (left_out == none_is_above) return label > step.cost + labels[step.to];
+        return left_out != step_label && !at_most(label, step.cost, labels[step.to]);
+    });
 }
 
 // Refusals 17 to 19, for a query that passes 1 to 11 with these labels.
-inline SheetAnswer check_claim(const Rules &rules, const Sheet &sheet) {
+inline SheetAnswer check_claim(const Rules &rules, const Sheet &sheet, SheetRule left_out = no_sheet_rule) {
     if (sheet.claim > 1 || (sheet.claim == 0 && !sheet.list.empty())) return {17};
     const auto walk = sheet.claim == 1 ? walk_of(rules, sheet.list) : SheetAnswer{};
     if (!walk) return {17};
     for (uint32_t arrival = 0; arrival < rules.arrivals(); arrival++)
-        if (breaks_a_label_rule(rules, sheet.labels, arrival)) return {18, arrival};
-    const uint64_t label = sheet.labels[rules.start()];
-    const bool right =
-        sheet.claim == 0 ? label == none : label != none && rules.first_distance() + label == walk->total;
+        if (breaks_a_label_rule(rules, sheet.labels, arrival, left_out)) return {18, arrival};
+    const uint64_t label = sheet.labels[rules.start()], from_start = rules.first_distance() + label;
+    const bool less = left_out == start_label_equal && from_start < walk->total;
+    const bool right = sheet.claim == 0 ? label == none : label != none && (from_start == walk->total || less);
     if (!right) return {19};
     return *walk;
 }
