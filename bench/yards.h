@@ -234,7 +234,8 @@ inline YardCase depot(uint32_t points) {
     std::vector<uint32_t> open{b.end}, runs{20};
     for (size_t i = 0; b.plan.points + 2 <= points + 3; i++) {
         const uint32_t left = b.point(), right = b.point();
-        b.plan.forbid(b.track(open[i], left), b.track(open[i], right));
+        const uint32_t one = b.track(open[i], left);
+        b.plan.forbid(one, b.track(open[i], right));
         open.insert(open.end(), {left, right});
         runs.insert(runs.end(), {runs[i] + 20, runs[i] + 20});
     }

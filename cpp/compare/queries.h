@@ -90,8 +90,9 @@ inline void confirm_by_all_lists(const Site &site, const Run &run, const second:
 // Some turns, and a question that is mostly about none.
 inline void pull_out_cases(Draw &draw, Site &site, uint32_t count, uint32_t longest) {
     const uint32_t sections = site.plan().count();
-    const uint32_t arrival = draw.below(2 * sections + 2), section = draw.below(sections + 1);
-    site.pull_out_case({draw.below(longest + 2), arrival, section}, draw.below(4));
+    const uint32_t arrival = draw.below(2 * sections + 2), section = draw.below(sections + 1),
+                   any = draw.below(longest + 2);
+    site.pull_out_case({any, arrival, section}, draw.below(4));
     const auto turns = static_cast<uint32_t>(site.plan().turns.size() / 2);
     for (; turns > 0 && count > 0; count--) {
         const uint32_t turn = draw.below(turns), length = 1 + draw.below(longest);

@@ -25,24 +25,33 @@ public:
         for (size_t number = 0; number < numbers; number++) {
             std::printf("%7zu", number);
             for (const auto &times : times_) std::printf(" %10ju", static_cast<uintmax_t>(times[number]));
-            std::printf(" %10ju  %zu\n", static_cast<uintmax_t>(total(number)), places_[number].size());
+            std::printf(" %10ju  %s\n", static_cast<uintmax_t>(total(number)), places_text(places_[number]).c_str());
         }
     }
 
-    // The cases were worth comparing: every refusal but 13, which is never given, and each low place of those that have
-    // one. No section before 1 joins the points of an earlier one, and no turn before 1 is a second one.
+    // The cases were worth comparing: every refusal but 13, which is never given, and each low place of those that
+    // have one. No section before 1 joins the points of an earlier one, and no turn before 1 is a second one.
     bool complete() const {
         bool all = total(13) == 0;
         if (!all) std::puts("compare: 13 was met");
         for (uint32_t number = 0; number < numbers; number++)
             all = met(number, total(number) > 0 || number == 13) && all;
         for (uint32_t number : {2, 3, 4, 5, 6, 18})
-            for (uint32_t place = number == 3 || number == 6; place < 6; place++)
+            for (uint32_t place = number == 3 || number == 6; place < 4; place++)
                 all = met(number, places_[number].contains(place), place) && all;
         return all;
     }
 
 private:
+    // How many there were, and the longest row of them from the lowest on.
+    static std::string places_text(const std::set<uint32_t> &places) {
+        if (places.size() < 2) return "";
+        uint32_t last = *places.begin();
+        while (places.contains(last + 1)) last++;
+        return std::to_string(places.size()) + ", all from " + std::to_string(*places.begin()) + " to " +
+               std::to_string(last);
+    }
+
     static bool met(uint32_t number, bool some, uint32_t place = 0) {
         if (!some) std::printf("compare: refusal %u at %u was never met\n", number, place);
         return some;
