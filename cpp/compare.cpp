@@ -2,7 +2,7 @@
 //   compare --cases N [--seed S]     at least N cases; counts by function and refusal number
 //   compare --only YARD [--seed S]   the cases of one yard again
 //   compare --forever [--seed S]     until it is stopped, with a line every 10,000 cases
-//   compare --tiny                   every tiny yard
+//   compare --tiny                   the search of every tiny yard
 //   compare --mutants                the same cases with wrong finders, each of which has to be caught
 // Ends with status 1 at the first difference, and prints the case in full.
 #include "compare/kinds.h"
@@ -56,8 +56,10 @@ void yard(Run &run, uint64_t seed, uint64_t number) {
 }
 
 int reported(const Difference &d, const Options &options) {
-    std::printf("compare: case %ju, %s: %s\n%sAgain: compare --only %ju --seed %ju\n", static_cast<uintmax_t>(d.number),
-                d.where.c_str(), d.what.c_str(), d.text.c_str(), static_cast<uintmax_t>(yard_under_way),
+    const std::string yard = " --only " + std::to_string(yard_under_way);
+    std::printf("compare: case %ju, %s: %s\n%sAgain: cpp/run_compare%s --seed %ju\n", static_cast<uintmax_t>(d.number),
+                d.where.c_str(), d.what.c_str(), d.text.c_str(),
+                std::string_view(options.mode) == "--tiny" ? " --tiny" : yard.c_str(),
                 static_cast<uintmax_t>(options.seed));
     return 1;
 }
@@ -102,7 +104,7 @@ int every_tiny_yard(const Options &options) {
     Run run{Finder{}};
     for (uint64_t number = 0; number < tiny_yards().count(); number++) {
         Draw draw(seed_of(options.seed, number));
-        tiny_yard(run, draw, number);
+        tiny_yard(run, draw, number, Tiny::search);
     }
     run.counts().print();
     std::printf("compare: %ju cases of all %ju tiny yards agree\n", static_cast<uintmax_t>(run.cases()),

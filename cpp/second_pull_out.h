@@ -7,7 +7,7 @@
 #include <algorithm>
 #include <array>
 #include <cstddef>
-#include <functional>
+#include <iterator>
 #include <map>
 #include <optional>
 #include <set>
@@ -238,28 +238,39 @@ inline std::optional<List> first_pull_out(const Yard &yard, const Turning &turni
     return first;
 }
 
-// The same from lists that grow section by section, as far as no clause is broken for good; several clauses can be left out.
+// Whether no clause is broken for good, of those that are not left out.
+inline bool may_go_on(const Yard &yard, const Turning &turning, const List &list, const std::set<size_t> &left_out) {
+    for (size_t i = 0; i + 1 < clauses.size(); i++)
+        if (!left_out.contains(i) && !clauses[i].holds(yard, turning, list)) return false;
+    return true;
+}
+
+// A list with one section more, in each way in which it may go on.
+inline std::vector<List> grown(const Yard &yard, const Turning &turning, const List &list,
+                               const std::set<size_t> &left_out = {}) {
+    std::vector<List> longer;
+    for (uint32_t q : yard.meeting.at(end_of(yard, turning.p, list))) {
+        longer.push_back(list);
+        longer.back().push_back(q);
+        if (!may_go_on(yard, turning, longer.back(), left_out)) longer.pop_back();
+    }
+    return longer;
+}
+
+inline bool reaches_L(const Yard &yard, const Turning &turning, const List &list) {
+    return clauses.back().holds(yard, turning, list);
+}
+
+// The smallest pull-out from lists that grow section by section, as far as no clause is broken for good.
 inline std::optional<List> grown_pull_out(const Yard &yard, const Turning &turning,
                                           const std::set<size_t> &left_out = {}) {
     std::optional<List> first;
-    const auto keeps = [&](size_t clause, const List &list) {
-        return left_out.contains(clause) || clauses[clause].holds(yard, turning, list);
-    };
-    const auto grow = [&](const List &list, uint64_t end, std::vector<List> &longer) {
-        for (uint32_t q : yard.meeting.at(end)) {
-            List next = list;
-            next.push_back(q);
-            bool goes_on = true;
-            for (size_t i = 0; i + 1 < clauses.size() && goes_on; i++) goes_on = keeps(i, next);
-            if (!goes_on) continue;
-            if (keeps(clauses.size() - 1, next) && (!first || next < *first)) first = next;
-            longer.push_back(next);
-        }
-    };
     std::vector<List> longest{{}};
     for (size_t length = 0; length < yard.sections.size() && !longest.empty(); length++) {
         std::vector<List> longer;
-        for (const List &list : longest) grow(list, end_of(yard, turning.p, list), longer);
+        for (const List &list : longest) std::ranges::move(grown(yard, turning, list, left_out), back_inserter(longer));
+        for (const List &list : longer)
+            if (reaches_L(yard, turning, list) && (!first || list < *first)) first = list;
         longest = std::move(longer);
     }
     return first;

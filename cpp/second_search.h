@@ -5,6 +5,7 @@
 // of ways to run on over a train's length, which is small on yards as they are built.
 #pragma once
 #include "second_pull_out.h"
+#include <functional>
 
 namespace second {
 

@@ -2,21 +2,23 @@
 #pragma once
 #include "site.h"
 
-// The second program itself, on tiny yards: its shortest walks are compared with all walks there are. A shortest walk
-// meets no arrival twice, so it has no more steps than there are arrivals to step to.
-inline void confirm_by_all_walks(const Run &run, const Judged &judged) {
+// The second program itself, on tiny yards: its label, and its walk from the start, are compared with all walks there
+// are. A shortest walk meets no arrival twice, so it has no more steps than there are arrivals to step to.
+inline void confirm_arrival(const Run &run, const Judged &judged, uint32_t arrival) {
     const second::Rules &rules = judged.rules;
     std::set<uint32_t> stepped_to;
     for (const second::Step &step : rules.steps) stepped_to.insert(step.to);
-    for (uint32_t arrival = 0; arrival < rules.arrivals(); arrival++) {
-        const auto walks = second::all_walks(rules, arrival, stepped_to.size());
-        const auto smallest = std::ranges::min_element(walks);
-        const uint64_t least = walks.empty() ? second::none : smallest->cost + rules.room();
-        run.confirm(judged.answer.labels[arrival] == least, "a label is not the least of all walks");
-        if (arrival != rules.start()) continue;
-        const second::List list = walks.empty() ? second::List{} : smallest->arrivals;
-        run.confirm(judged.sheet().list == list, "the walk is not the smallest of all");
-    }
+    const auto walks = second::all_walks(rules, arrival, stepped_to.size());
+    const auto smallest = std::ranges::min_element(walks);
+    const uint64_t least = walks.empty() ? second::none : smallest->cost + rules.room();
+    run.confirm(judged.answer.labels[arrival] == least, "a label is not the least of all walks");
+    if (arrival != rules.start()) return;
+    const second::List list = walks.empty() ? second::List{} : smallest->arrivals;
+    run.confirm(judged.sheet().list == list, "the walk is not the smallest of all");
+}
+
+inline void confirm_by_all_walks(const Run &run, const Judged &judged) {
+    for (uint32_t arrival = 0; arrival < judged.rules.arrivals(); arrival++) confirm_arrival(run, judged, arrival);
 }
 
 // The search's own sheet is accepted with the same numbers, and so is any other shortest walk.

@@ -35,10 +35,10 @@ public:
         bool all = total(13) == 0;
         if (!all) std::puts("compare: 13 was met");
         for (uint32_t number = 0; number < numbers; number++)
-            all = met(number, total(number) > 0 || number == 13) && all;
+            all = met(total(number) > 0 || number == 13, number, "") && all;
         for (uint32_t number : {2, 3, 4, 5, 6, 18})
             for (uint32_t place = number == 3 || number == 6; place < 4; place++)
-                all = met(number, places_[number].contains(place), place) && all;
+                all = met(places_[number].contains(place), number, " at " + std::to_string(place)) && all;
         return all;
     }
 
@@ -52,8 +52,8 @@ private:
                std::to_string(last);
     }
 
-    static bool met(uint32_t number, bool some, uint32_t place = 0) {
-        if (!some) std::printf("compare: refusal %u at %u was never met\n", number, place);
+    static bool met(bool some, uint32_t number, const std::string &place) {
+        if (!some) std::printf("compare: refusal %u%s was never met\n", number, place.c_str());
         return some;
     }
 

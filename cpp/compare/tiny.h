@@ -149,18 +149,20 @@ inline const TinyYards &tiny_yards() {
     return yards;
 }
 
-// One of them: its search, its sheets, its reversals, and all walks.
-inline void tiny_yard(Run &run, Draw &draw, uint64_t number) {
+// One of them: its search, its sheets and its walk; and all its labels, a turn and a wrong sheet.
+enum class Tiny { search, all };
+
+inline void tiny_yard(Run &run, Draw &draw, uint64_t number, Tiny cases) {
     const auto [plan, query] = tiny_yards().yard(number);
     Site site(run, plan);
     const std::optional<Judged> judged = site.judge(query);
     site.search_case(query, judged, 2 * plan.count(), 2 * plan.count());
-    if (!plan.turns.empty()) {
+    if (cases == Tiny::all && !plan.turns.empty()) {
         const auto turn = draw.below(static_cast<uint32_t>(plan.turns.size() / 2));
         turn_cases(draw, site, turn, query.length);
     }
-    if (!judged) return;
     right_sheets(draw, site, query, judged);
+    if (cases == Tiny::search) return confirm_arrival(run, *judged, judged->rules.start());
     wrong_sheets(draw, site, query, judged, judged->sheet(), 1);
     confirm_by_all_walks(run, *judged);
 }
@@ -168,5 +170,5 @@ inline void tiny_yard(Run &run, Draw &draw, uint64_t number) {
 // The stride and the number of yards have no common divisor, so that every yard comes up before one comes up again.
 inline void next_tiny_yard(Run &run, Draw &draw, uint64_t turn) {
     constexpr uint64_t stride = 1000003;
-    tiny_yard(run, draw, turn % tiny_yards().count() * stride % tiny_yards().count());
+    tiny_yard(run, draw, turn % tiny_yards().count() * stride % tiny_yards().count(), Tiny::all);
 }

@@ -29,27 +29,17 @@ template <size_t... clause> Answer pull_out_without(const AskedPullOut &asked) {
 }
 
 // At each point the lowest section that may be entered is taken, and no other is tried where that leads to nothing.
-inline Answer stops_at_the_first(const AskedPullOut &asked) {
-    return answered(asked, [](const second::Yard &yard, const second::Turning &turning) {
-        const auto first = second::grown_pull_out(yard, turning);
-        if (!first) return first;
-        second::List list;
-        for (uint32_t taken : *first) {
-            second::List lowest = list;
-            for (uint32_t q : yard.meeting.at(second::end_of(yard, turning.p, list))) {
-                lowest.push_back(q);
-                bool may = true;
-                for (size_t i = 0; i + 1 < second::clauses.size(); i++)
-                    may = may && second::clauses[i].holds(yard, turning, lowest);
-                if (may) break;
-                lowest.pop_back();
-            }
-            if (lowest.back() != taken) return std::optional<second::List>{};
-            list = lowest;
-        }
-        return first;
-    });
+inline std::optional<second::List> first_try(const second::Yard &yard, const second::Turning &turning) {
+    second::List list;
+    for (auto longer = second::grown(yard, turning, list); !longer.empty();
+         longer = second::grown(yard, turning, list)) {
+        list = longer.front();
+        if (second::reaches_L(yard, turning, list)) return list;
+    }
+    return std::nullopt;
 }
+
+inline Answer stops_at_the_first(const AskedPullOut &asked) { return answered(asked, first_try); }
 
 inline Answer turn_holds_one_way(const AskedPullOut &asked) {
     second::Turning turning{};
