@@ -7,8 +7,8 @@ import re
 PARTS = [
     ("plan check", r"plan::|.*after plan::check_plan$"),
     ("train, start, finish", r"train::"),
-    ("pull-outs", r"(pullout|reversal)::"),
-    ("step table", r"steps::|.*after (pullout|reversal)::"),
+    ("pull-outs", r"(bounds|cut|pullout|reversal)::"),
+    ("step table", r"steps::|.*after (bounds|cut|pullout|reversal)::"),
     ("route", r"distance::(walk|first_walk)"),
     ("writing", r"search::write"),
     ("labels; what is compiled in with them: route, writing, a sheet's rules",

@@ -5,7 +5,7 @@
 #include "guard.h"
 #include "plan.h"
 #include "second_sheet.h"
-#include "yard_bytes.h"
+#include "yard_files.h"
 #include <array>
 #include <cstdio>
 #include <functional>

@@ -1,6 +1,6 @@
 // Yards as they are built, up to the limits of a plan, and the largest plans there can be.
 #pragma once
-#include "../../bench/search_yards.h"
+#include "../../bench/search_queries.h"
 #include "../../bench/yards.h"
 #include "../random_queries.h"
 #include "queries.h"
@@ -26,9 +26,10 @@ inline void realistic_yard(Run &run, Draw &draw, uint64_t turn) {
     const Plan plan = draw_realistic(draw, search_families[turn % search_families.size()]);
     const uint32_t longest = longest_train(plan);
     if (longest < 200) return;
-    const Query drawn = draw_query(plan, draw.between(200, longest), draw);
-    const second::Query query{drawn.length, drawn.start, drawn.start_end, drawn.finish, drawn.finish_end};
-    Site site(run, drawn.plan);
+    const std::optional<Query> drawn = draw_query(plan, draw.between(200, longest), draw);
+    if (!drawn) return;
+    const second::Query query{drawn->length, drawn->start, drawn->start_end, drawn->finish, drawn->finish_end};
+    Site site(run, drawn->plan);
     site.plan_case();
     second::Sheet another{1, {}, second::List(2 * plan.count(), 0)};
     query_cases(draw, site, query, another, 8);
