@@ -4,13 +4,15 @@
 // walk is a shortest one, of these the first by its section numbers, and has fewer steps than there are arrivals; both entries end, stay
 // within the lent slices, and change nothing behind the front that they fill.
 //
-// Not proved, but argued: how long it takes. The labels are found by a worklist (worklist.rt) and then checked by sweeps (sweep.rt).
-// An arrival comes into the queue only when its label falls, and then passes its label back over the steps that lead to it. In round i
-// of the queue each arrival is taken out at most once, and after it every label is at most the distance of the best walk of i steps or
-// fewer. A shortest walk has fewer steps than there are arrivals, so with n arrivals, which have at most 2n steps, there are at most n
-// rounds, n * n arrivals taken out, and 2 * n * n labels passed back: the budget of 2,048 * 2,048 never cuts it short. Where costs are
-// not made up so that labels fall again and again, an arrival is taken out a few times, and all is a small multiple of n. The first
-// sweep then finds nothing to lower, and costs n. Were it otherwise, the sweeps alone would end after n of them.
+// Not proved, but argued: how long it takes. The labels are found by a worklist (worklist.rt), and that no step lowers one is then seen
+// in one pass (sweep.rt). Each arrival is looked at once to begin with and once at the end. Between, an arrival comes into the queue
+// only when its label falls, and then passes its label back over the steps that lead to it. The queue (queue.rt) hands out arrivals ring
+// by ring, a ring for 2,048 decimetres. What is passed back from a ring is no less than its lowest label, so an arrival is taken out of
+// one ring only, that of its distance. Within a ring those that came first are taken out first: in round i each at most once, and after
+// it each has its distance whose shortest walk has at most i steps in that ring. So where no step costs less than c, an arrival is taken
+// out at most 1 + 2,047 / c times; measured, once, but for one in a hundred. It is never more than 2,048 times, so that the limit of
+// 2,048 * 2,048 does not cut the worklist short. Empty rings are passed over, one for each 2,048 decimetres of the greatest distance, and
+// that is at most 220,000. Were the labels not settled then, sweeps would go on, and end after as many as there are arrivals.
 mod label;
 mod queue;
 mod sweep;

@@ -1,9 +1,9 @@
 // The queue of the worklist: the arrivals that wait, in the order of their labels but for 2,048 decimetres. Nothing is claimed of
 // the order or of who waits, only that links lead to nodes.
 //
-// There are 128 rings of nodes, each with a head. An arrival waits in the ring of its label, which counts whole 2,048 decimetres
-// and goes round: a step costs at most 220,000, less than 127 times that, so labels that wait at the same time do not meet in a ring
-// unless they are in order but for 2,048. Within a ring the first to come is the first to be taken out.
+// There are 128 rings of nodes, each with a head. An arrival waits in the ring of its label: rings count whole 2,048 decimetres, and
+// the first comes again after the last. A step costs at most 220,000, so while a ring is emptied the labels that wait belong to that ring
+// and the next 108, and those in one ring lie within 2,048. There the first to come is the first to be taken out.
 //
 // Nodes 1 to 128 are the heads, and node 129 + a is arrival a. In the links stands at 2x the node after x, and at 2x + 1 the node
 // before x; there 0 says that x is in no ring.

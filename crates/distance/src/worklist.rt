@@ -15,10 +15,9 @@ use crate::queue::ring;
 use crate::queue::take;
 use crate::queue::wait;
 
-// Notes for arrival b that the step at place k leads to it. For each arrival stand one more than the last such place in the lower half
-// of its number, and one more than the last but one in the upper half. No arrival of a plan has more; a place left out would only
-// leave the sweep more to do.
-fn link(leading: &mut [u32], k: usize, b: u32)
+// Notes that the step at place k leads to arrival b. In the number of an arrival stands one more than the last such place below, and
+// above, times 65,536, one more than the last but one. No arrival of a plan has a third; one left out would leave it to the sweep.
+fn note_place(leading: &mut [u32], k: usize, b: u32)
     requires { ⌜ k < 4096 ⌝ }
 {
     let at = wide(b);
@@ -65,8 +64,8 @@ fn begin(
     let mut came: u32 = 0;
     let mut a: usize = 0;
     while a < labels.len() {
-        link(leading, 2 * a, next[2 * a]);
-        link(leading, 2 * a + 1, next[2 * a + 1]);
+        note_place(leading, 2 * a, next[2 * a]);
+        note_place(leading, 2 * a + 1, next[2 * a + 1]);
         came = begin_at(ends, room, labels, links, a, came);
         a += 1;
     }
@@ -194,7 +193,7 @@ fn run_with(
     chase(next, cost, labels, leading, links, ring(room), begun);
 }
 
-// Labels as low as the worklist makes them, for at most 128 arrivals, or for any.
+// The same with tables for at most 128 arrivals.
 fn run_small(next: &[u32], cost: &[u32], ends: &[u32], room: u32, labels: &mut [u32])
     requires { ⌜ (length (now labels) ≤ 128) × Sizes (now next) (now cost) (now ends) (now labels) ⌝ }
     ensures { λ _. ⌜ Kept (now (next .entry)) (now (cost .entry)) (now (ends .entry)) room (now (labels .entry)) (now (labels .exit)) ⌝ }
@@ -204,6 +203,7 @@ fn run_small(next: &[u32], cost: &[u32], ends: &[u32], room: u32, labels: &mut [
     run_with(next, cost, ends, room, labels, &mut leading, &mut links);
 }
 
+// The same with tables for all arrivals that there can be.
 fn run_large(next: &[u32], cost: &[u32], ends: &[u32], room: u32, labels: &mut [u32])
     requires { ⌜ Sizes (now next) (now cost) (now ends) (now labels) ⌝ }
     ensures { λ _. ⌜ Kept (now (next .entry)) (now (cost .entry)) (now (ends .entry)) room (now (labels .entry)) (now (labels .exit)) ⌝ }
@@ -213,7 +213,7 @@ fn run_large(next: &[u32], cost: &[u32], ends: &[u32], room: u32, labels: &mut [
     run_with(next, cost, ends, room, labels, &mut leading, &mut links);
 }
 
-// Labels as low as the worklist makes them. The tables of a small plan are small, since clearing them takes time.
+// Labels as low as the worklist makes them. A small plan has small tables, since clearing them takes time.
 pub(crate) fn run_down(next: &[u32], cost: &[u32], ends: &[u32], room: u32, labels: &mut [u32])
     requires { ⌜ Sizes (now next) (now cost) (now ends) (now labels) ⌝ }
     ensures { λ _. ⌜ Kept (now (next .entry)) (now (cost .entry)) (now (ends .entry)) room (now (labels .entry)) (now (labels .exit)) ⌝ }

@@ -21,41 +21,41 @@ abbrev μ-loop : tie.MeasureT-loop
 loop-holds : tie.Need-loop-holds Inv-loop μ-loop
 loop-holds c = (begun-none, relinked-none (search needs), refl, search needs, search needs)
 
-mul-link : tie.Need-mul-link Inv-loop μ-loop
-mul-link c = search needs
+mul-note-place : tie.Need-mul-note-place Inv-loop μ-loop
+mul-note-place c = search needs
 
-mul-link-2 : tie.Need-mul-link-2 Inv-loop μ-loop
-mul-link-2 c = search needs
+mul-note-place-2 : tie.Need-mul-note-place-2 Inv-loop μ-loop
+mul-note-place-2 c = search needs
 
-mul-link-3 : tie.Need-mul-link-3 Inv-loop μ-loop
-mul-link-3 c = search needs
+mul-note-place-3 : tie.Need-mul-note-place-3 Inv-loop μ-loop
+mul-note-place-3 c = search needs
 
-shared-slice-read-link : tie.Need-shared-slice-read-link Inv-loop μ-loop
-shared-slice-read-link c = search needs
+shared-slice-read-note-place : tie.Need-shared-slice-read-note-place Inv-loop μ-loop
+shared-slice-read-note-place c = search needs
 
-link-requires : tie.Need-link-requires Inv-loop μ-loop
-link-requires c κs = search needs
+note-place-requires : tie.Need-note-place-requires Inv-loop μ-loop
+note-place-requires c κs = search needs
 
-mul-link-4 : tie.Need-mul-link-4 Inv-loop μ-loop
-mul-link-4 c = search needs
+mul-note-place-4 : tie.Need-mul-note-place-4 Inv-loop μ-loop
+mul-note-place-4 c = search needs
 
-add-link : tie.Need-add-link Inv-loop μ-loop
-add-link c = search needs
+add-note-place : tie.Need-add-note-place Inv-loop μ-loop
+add-note-place c = search needs
 
-mul-link-5 : tie.Need-mul-link-5 Inv-loop μ-loop
-mul-link-5 c = search needs
+mul-note-place-5 : tie.Need-mul-note-place-5 Inv-loop μ-loop
+mul-note-place-5 c = search needs
 
-add-link-2 : tie.Need-add-link-2 Inv-loop μ-loop
-add-link-2 c = search needs
+add-note-place-2 : tie.Need-add-note-place-2 Inv-loop μ-loop
+add-note-place-2 c = search needs
 
-mul-link-6 : tie.Need-mul-link-6 Inv-loop μ-loop
-mul-link-6 c = search needs
+mul-note-place-6 : tie.Need-mul-note-place-6 Inv-loop μ-loop
+mul-note-place-6 c = search needs
 
-shared-slice-read-link-2 : tie.Need-shared-slice-read-link-2 Inv-loop μ-loop
-shared-slice-read-link-2 c = search needs
+shared-slice-read-note-place-2 : tie.Need-shared-slice-read-note-place-2 Inv-loop μ-loop
+shared-slice-read-note-place-2 c = search needs
 
-link-requires-2 : tie.Need-link-requires-2 Inv-loop μ-loop
-link-requires-2 c κs = search needs
+note-place-requires-2 : tie.Need-note-place-requires-2 Inv-loop μ-loop
+note-place-requires-2 c κs = search needs
 
 begin-at-requires : tie.Need-begin-at-requires Inv-loop μ-loop
 begin-at-requires c κs = (search needs, search needs, search needs, c .before .before .before .before .before .before .before .before .before .before .before .before .before .loop .inv .1 .linked, search needs)
@@ -91,18 +91,18 @@ begin-spec =
     Inv-loop
     μ-loop
     loop-holds
-    mul-link
-    mul-link-2
-    mul-link-3
-    shared-slice-read-link
-    link-requires
-    mul-link-4
-    add-link
-    mul-link-5
-    add-link-2
-    mul-link-6
-    shared-slice-read-link-2
-    link-requires-2
+    mul-note-place
+    mul-note-place-2
+    mul-note-place-3
+    shared-slice-read-note-place
+    note-place-requires
+    mul-note-place-4
+    add-note-place
+    mul-note-place-5
+    add-note-place-2
+    mul-note-place-6
+    shared-slice-read-note-place-2
+    note-place-requires-2
     begin-at-requires
     add-a
     loop-less
