@@ -1,7 +1,7 @@
 -- `queue::empty_rings` meets its contract. The loop's invariant: links lead to nodes. The measure is how many heads are left.
 -- Assumes nothing.
-use borrow.Author.Needs.{needs}
 use Prim.Native.Nat.{_-_}
+use borrow.Author.Needs.{needs}
 use Rattle.distance.specs.Queue.{Relinked}
 use Rattle.distance.proofs.Linking.{relinked-none, relinked-more}
 use Rattle.distance.proofs.queue.empty_rings.Statement.{statement}

@@ -1,7 +1,7 @@
 -- `queue::join` meets its contract: nodes are put among the links.
 -- Assumes nothing.
-use Rattle.distance.proofs.Linking.{relinked-none, relinked-set}
 use borrow.Author.Needs.{needs}
+use Rattle.distance.proofs.Linking.{relinked-none, relinked-set}
 use Rattle.distance.proofs.queue.join.Statement.{statement}
 use Rattle.distance.proofs.queue.join.Tie as tie
 

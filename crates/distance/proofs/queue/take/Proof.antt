@@ -1,7 +1,7 @@
 -- `queue::take` meets its contract.
 -- Assumes nothing.
-use Rattle.distance.proofs.Linking.{relinked-set}
 use borrow.Author.Needs.{needs}
+use Rattle.distance.proofs.Linking.{relinked-set}
 use Rattle.distance.proofs.queue.take.Statement.{statement}
 use Rattle.distance.proofs.queue.take.Tie as tie
 

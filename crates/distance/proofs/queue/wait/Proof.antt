@@ -1,7 +1,7 @@
 -- `queue::wait` meets its contract: the node leaves its ring and is put into another.
 -- Assumes nothing.
-use Rattle.distance.proofs.Linking.{relinked-more}
 use borrow.Author.Needs.{needs}
+use Rattle.distance.proofs.Linking.{relinked-more}
 use Rattle.distance.proofs.queue.wait.Statement.{statement}
 use Rattle.distance.proofs.queue.wait.Tie as tie
 

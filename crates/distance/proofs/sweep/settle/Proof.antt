@@ -1,9 +1,9 @@
 -- `sweep::settle` meets its contract. The loop's invariant: no label is below what is offered. The measure is the sum of the
 -- labels, which each sweep but the last makes less.
 -- Assumes nothing.
+use borrow.Author.Needs.{needs}
 use Rattle.distance.specs.Labels.{sum, Kept}
 use Rattle.distance.proofs.Lowering.{kept-none, kept-more, swept-settled, still-settled}
-use borrow.Author.Needs.{needs}
 use Rattle.distance.proofs.sweep.settle.Statement.{statement}
 use Rattle.distance.proofs.sweep.settle.Tie as tie
 

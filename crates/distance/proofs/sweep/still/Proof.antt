@@ -2,11 +2,11 @@
 -- Assumes nothing.
 use mathlib.Core.Bool.{false≢true}
 use Prim.Native.Nat.{_-_}
+use borrow.Author.Needs.{needs}
+use borrow.Author.Tests.{not-false}
 use lib.ListN.{length}
 use Rattle.distance.specs.Labels.{Still}
 use Rattle.distance.proofs.Lowering.{still-none, still-more, still-all}
-use borrow.Author.Needs.{needs}
-use borrow.Author.Tests.{not-false}
 use Rattle.distance.proofs.sweep.still.Statement.{statement}
 use Rattle.distance.proofs.sweep.still.Tie as tie
 

@@ -2,11 +2,11 @@
 -- Assumes nothing.
 use mathlib.Core.Bool.{false≢true}
 use native.Mathlib.Omega.{arith}
+use borrow.Author.Needs.{needs}
 use denote.Ref.{now}
 use Rattle.rules.specs.Net.{no-distance}
 use Rattle.rules.proofs.Lists.{any-default}
 use Rattle.distance.proofs.Offers.{best-least}
-use borrow.Author.Needs.{needs}
 use Rattle.distance.proofs.sweep.still_at.Statement.{statement}
 use Rattle.distance.proofs.sweep.still_at.Tie as tie
 

@@ -3,12 +3,12 @@
 -- Assumes nothing.
 use mathlib.Core.Path.{_≡_, refl}
 use Prim.Native.Nat.{_-_, _≤_}
+use borrow.Author.Needs.{needs}
 use lib.ListN.{length}
 use Rattle.distance.specs.Labels.{Begun}
 use Rattle.distance.specs.Queue.{Relinked}
 use Rattle.distance.proofs.Lowering.{begun-none, begun-more}
 use Rattle.distance.proofs.Linking.{relinked-none, relinked-more}
-use borrow.Author.Needs.{needs}
 use Rattle.distance.proofs.worklist.begin.Statement.{statement}
 use Rattle.distance.proofs.worklist.begin.Tie as tie
 

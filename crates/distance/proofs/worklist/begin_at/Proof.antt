@@ -1,10 +1,10 @@
 -- `worklist::begin_at` meets its contract: the label is lowered to what the arrival offers by itself, if at all.
 -- Assumes nothing.
 use mathlib.Core.Path.{sym}
+use borrow.Author.Needs.{needs}
 use Rattle.distance.proofs.Offers.{ends-here}
 use Rattle.distance.proofs.Lowering.{begun}
 use Rattle.distance.proofs.Linking.{relinked-none}
-use borrow.Author.Needs.{needs}
 use Rattle.distance.proofs.worklist.begin_at.Statement.{statement}
 use Rattle.distance.proofs.worklist.begin_at.Tie as tie
 

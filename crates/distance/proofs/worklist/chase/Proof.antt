@@ -2,11 +2,11 @@
 -- came to wait for each that was taken out. The measure is how many more may be taken out.
 -- Assumes nothing.
 use Prim.Native.Nat.{_+_, _*_, _-_, _≤_, _<_}
+use borrow.Author.Needs.{needs}
 use Rattle.distance.specs.Labels.{Passed}
 use Rattle.distance.specs.Queue.{Relinked}
 use Rattle.distance.proofs.Lowering.{passed-none, passed-more}
 use Rattle.distance.proofs.Linking.{relinked-none, relinked-more, still-ready}
-use borrow.Author.Needs.{needs}
 use Rattle.distance.proofs.worklist.chase.Statement.{statement}
 use Rattle.distance.proofs.worklist.chase.Tie as tie
 

@@ -1,9 +1,9 @@
 -- `worklist::pass_back` meets its contract.
 -- Assumes nothing.
 use native.Mathlib.Omega.{arith}
+use borrow.Author.Needs.{needs}
 use Rattle.distance.proofs.Lowering.{passed-more}
 use Rattle.distance.proofs.Linking.{relinked-more, still-ready}
-use borrow.Author.Needs.{needs}
 use Rattle.distance.proofs.worklist.pass_back.Statement.{statement}
 use Rattle.distance.proofs.worklist.pass_back.Tie as tie
 

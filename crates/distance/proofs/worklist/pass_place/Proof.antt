@@ -1,9 +1,9 @@
 -- `worklist::pass_place` meets its contract: the label is lowered to what the step offers, if at all.
 -- Assumes nothing.
+use borrow.Author.Needs.{needs}
 use Rattle.distance.proofs.Offers.{offer-known}
 use Rattle.distance.proofs.Lowering.{passed}
 use Rattle.distance.proofs.Linking.{relinked-none}
-use borrow.Author.Needs.{needs}
 use Rattle.distance.proofs.worklist.pass_place.Statement.{statement}
 use Rattle.distance.proofs.worklist.pass_place.Tie as tie
 

@@ -1,8 +1,8 @@
 -- `worklist::run_large` meets its contract.
 -- Assumes nothing.
 use native.Mathlib.Omega.{arith}
-use Rattle.distance.proofs.Linking.{ready-new}
 use borrow.Author.Needs.{needs}
+use Rattle.distance.proofs.Linking.{ready-new}
 use Rattle.distance.proofs.worklist.run_large.Statement.{statement}
 use Rattle.distance.proofs.worklist.run_large.Tie as tie
 

@@ -1,8 +1,8 @@
 -- `worklist::run_with` meets its contract.
 -- Assumes nothing.
+use borrow.Author.Needs.{needs}
 use Rattle.distance.proofs.Lowering.{begun-passed}
 use Rattle.distance.proofs.Linking.{relinked-more, still-ready}
-use borrow.Author.Needs.{needs}
 use Rattle.distance.proofs.worklist.run_with.Statement.{statement}
 use Rattle.distance.proofs.worklist.run_with.Tie as tie
 

@@ -1,8 +1,8 @@
 -- `worklist::serve` meets its contract.
 -- Assumes nothing.
 use mathlib.Core.Path.{refl}
-use Rattle.distance.proofs.Linking.{relinked-more, still-ready}
 use borrow.Author.Needs.{needs}
+use Rattle.distance.proofs.Linking.{relinked-more, still-ready}
 use Rattle.distance.proofs.worklist.serve.Statement.{statement}
 use Rattle.distance.proofs.worklist.serve.Tie as tie
 
