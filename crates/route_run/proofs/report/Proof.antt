@@ -1,7 +1,6 @@
 -- `report` meets its contract: no more is taken of a table than it has.
 -- Assumes nothing.
 use mathlib.Core.Path.{sym}
-use Prim.Native.Nat.{_-_}
 use native.Mathlib.Omega.{arith}
 use lib.Seq.{length-take-le}
 use lib.ListN.{length-take}

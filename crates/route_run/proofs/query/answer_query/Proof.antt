@@ -1,7 +1,6 @@
 -- `query::answer_query` meets its contract: there are labels for each arrival of at most 1,024 sections.
 -- Assumes nothing.
 use mathlib.Core.Path.{sym}
-use Prim.Native.Nat.{_-_}
 use lib.Seq.{length-take-le}
 use borrow.Author.Needs.{needs}
 use Rattle.route_run.proofs.query.answer_query.Statement.{statement}
