@@ -2,19 +2,16 @@
 import collections
 import re
 
-# The first that matches a place names its part. What the compiler has put into an entry counts by what was called before: after the
-# check of the train come the tables of the plan, after the table of steps all the rest.
+# The first that matches a place names its part. What the compiler has put into an entry counts by what was called before.
+STEPS = "step table"
+PULL_OUTS = "pull-outs, and the reversals that they serve"
 PARTS = [
-    ("plan check", r"plan::|.*after plan::check_plan$"),
+    ("plan check, with who meets where and the turn of each point", r"plan::|.*after plan::"),
     ("train, start, finish", r"train::"),
-    ("pull-outs", r"(bounds|cut|pullout|reversal)::"),
-    ("step table", r"steps::|.*after (bounds|cut|pullout|reversal)::"),
-    ("route", r"distance::(walk|first_walk)"),
-    ("writing", r"search::write"),
-    ("labels; what is compiled in with them: route, writing, a sheet's rules",
-     r"distance::|search::|sheet::|.*after (steps|distance|search|sheet)::"),
-    ("who meets where, forbidden turn of each point", r".*after train::"),
-    ("all else", r""),
+    (STEPS, r"(steps|bounds|cut|pullout|reversal)::|.*after (bounds|cut|pullout|reversal)::"),
+    ("labels", r"distance::"),
+    ("check of the labels, route", r"search::solve"),
+    ("writing, a sheet's rules", r""),
 ]
 
 
@@ -27,6 +24,11 @@ def summed(counts, name_of):
 
 def part_of(place, _):
     return next(part for part, pattern in PARTS if re.match(pattern, place.removesuffix(", in the C library")))
+
+
+def with_pull_outs(parts, without_turns):
+    """The same parts, with what forbidden turns add to the table of steps told apart. Both are of one call."""
+    return parts + collections.Counter({PULL_OUTS: parts[STEPS] - without_turns[STEPS], STEPS: without_turns[STEPS] - parts[STEPS]})
 
 
 def function_of(place, _):

@@ -25,15 +25,19 @@ struct Outcome {
 
 using Call = std::function<void(Outcome &)>;
 
-inline Call finder_ready(const Query &query) {
-    return [&query](Outcome &outcome) {
+inline Call search_ready(const Query &query, size_t turns_len) {
+    return [&query, turns_len](Outcome &outcome) {
         const Plan &plan = query.plan;
         outcome.answer =
-            finder_search(plan.points, plan.sections.data(), plan.sections.size(), plan.turns.data(), plan.turns.size(),
+            finder_search(plan.points, plan.sections.data(), plan.sections.size(), plan.turns.data(), turns_len,
                           query.length, query.start, query.start_end, query.finish, query.finish_end,
                           outcome.route.data(), outcome.route.size(), outcome.labels.data(), outcome.labels.size());
     };
 }
+
+inline Call finder_ready(const Query &query) { return search_ready(query, query.plan.turns.size()); }
+// Without forbidden turns nothing asks for a pull-out.
+inline Call no_turns_ready(const Query &query) { return search_ready(query, 0); }
 
 inline Outcome found(const Query &query) {
     Outcome outcome(query);
@@ -96,6 +100,7 @@ struct Side {
 
 inline const std::vector<Side> sides{
     {"search", finder_ready, true},
+    {"search, no turns", no_turns_ready, false},
     {"sheet", sheet_ready, false},
     {"plan", check_ready, false},
     {"Algorithm 1", algorithm_1_ready, true},
