@@ -95,12 +95,12 @@ struct Side {
     const char *name;
     Call (*ready)(const Query &);
     bool searches;                 // its outcome is to be that of finder_search
-    uint32_t sections_most = 1024; // on larger yards it takes too long
+    uint32_t sections_most = 1024; // on larger yards it takes too long; 0 for what is counted and not timed
 };
 
 inline const std::vector<Side> sides{
     {"search", finder_ready, true},
-    {"search, no turns", no_turns_ready, false},
+    {"search, no turns", no_turns_ready, false, 0},
     {"sheet", sheet_ready, false},
     {"plan", check_ready, false},
     {"Algorithm 1", algorithm_1_ready, true},
