@@ -32,7 +32,7 @@ no-walk-or-costs e f = let y : _≡_ {A = ℕ} 0 1 = cc in omega arith
 nothing-or-label : {d : Due} {n : ℕ} → d ≡ Nothing → d ≡ Label n → ⊥
 nothing-or-label e f = let y : _≡_ {A = ℕ} 0 1 = cc in omega arith
 
-empty : (bs : List ℕ) → length bs ≡ 0 → bs ≡ []
+pub empty : (bs : List ℕ) → length bs ≡ 0 → bs ≡ []
 empty [] e = refl
 empty (b ∷ bs) e = absurd (omega arith)
 

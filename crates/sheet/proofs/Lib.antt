@@ -5,3 +5,4 @@ pub mod Keeping
 pub mod Checking
 pub mod Answering
 pub mod Demand
+pub mod Silent

@@ -5,6 +5,7 @@
 // halves follow from the contract of `check_sheet`: proofs/Demand.antt has them as `accepted-is-shortest` and `accepted-no-route`,
 // `shortest-is-accepted` and `no-route-is-accepted`. So the search's own answer is accepted (`search-is-accepted`).
 mod claim;
+mod nothing;
 mod rule;
 mod tables;
 mod walk;

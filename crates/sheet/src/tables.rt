@@ -7,6 +7,7 @@ ghost use Rattle.train.specs.Asked.{query-asked, Accepted};
 ghost use Rattle.bounds.specs.Tables.{Tables};
 ghost use Rattle.sheet.specs.Checking.{SheetChecked};
 use crate::claim::check_claim;
+use crate::nothing::claims_nothing;
 use plan::Checked;
 use rules::NO_DISTANCE;
 use steps::listing::list_steps;
@@ -121,6 +122,9 @@ pub(crate) fn check_over_steps(
     requires { ⌜ Accepted (query-asked asked (now sections) (now turns)) (length (now labels)) × Tables (now sections) (now turns) (now slots) (now table) ⌝ }
     ensures { λ r. ⌜ SheetChecked (query-asked asked (now (sections .entry)) (now (turns .entry))) (sheet-of claim (now (list .entry)) (now (labels .entry))) r ⌝ }
 {
+    if claims_nothing(sections, turns, slots, table, asked, claim, list, labels) {
+        return Checked::Passed;
+    }
     if sections.len() / 6 <= 64 {
         return check_small(sections, turns, slots, table, asked, claim, list, labels);
     }
