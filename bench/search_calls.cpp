@@ -1,5 +1,6 @@
 // Calls of one side, for counting instructions.
-//   search_calls SIDE YARD SIZE HALF EACH    the queries of a yard, so many of each length; prints the number of calls
+//   search_calls SIDE YARD SIZE HALF EACH    queries of a yard, so many of each length, none to a dead end; prints the number of
+//                                            calls
 #include "count_marks.h"
 #include "sides.h"
 #include <cstdio>
@@ -26,7 +27,7 @@ void call_all(const Side &side, const std::vector<Query> &queries) {
 int main(int argc, char **argv) {
     if (argc != 6) return std::fputs("search_calls: SIDE YARD SIZE HALF EACH\n", stderr), 2;
     const Plan yard = family_named(argv[2]).yard(number(argv[3]));
-    const std::vector<Query> queries = draw_queries(yard, number(argv[4]) != 0, number(argv[5]));
+    const std::vector<Query> queries = draw_searches(yard, number(argv[4]) != 0, number(argv[5]));
     call_all(side_named(argv[1]), queries);
     std::printf("%zu\n", queries.size());
 }

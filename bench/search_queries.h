@@ -5,6 +5,7 @@
 #include <algorithm>
 #include <array>
 #include <iterator>
+#include <map>
 #include <optional>
 
 constexpr std::array<uint32_t, 6> train_lengths{200, 500, 1000, 2000, 3500, 5000};
@@ -64,4 +65,22 @@ inline std::vector<Query> draw_queries(const Plan &yard, bool half_occupied, uin
         for (uint32_t i = 0; i < each; i++)
             if (const auto query = draw_query(plan, length, draw)) all.push_back(*query);
     return all;
+}
+
+// The finish point has no other section: no walk can end there, which is answered right after the plan check.
+inline bool finishes_at_dead_end(const Query &query) {
+    const std::vector<uint32_t> &sections = query.plan.sections;
+    const uint32_t goal = sections[6 * query.finish + query.finish_end];
+    uint32_t there = 0;
+    for (size_t s = 0; s < sections.size(); s += 6) there += sections[s] == goal || sections[s + 1] == goal;
+    return there == 1;
+}
+
+// So many queries of each length, none to a dead end: what these cost would hide what the others do.
+inline std::vector<Query> draw_searches(const Plan &yard, bool half_occupied, uint32_t each) {
+    std::vector<Query> all = draw_queries(yard, half_occupied, 10 * each), kept;
+    std::map<uint32_t, uint32_t> by_length;
+    for (const Query &query : all)
+        if (!finishes_at_dead_end(query) && by_length[query.length]++ < each) kept.push_back(query);
+    return kept;
 }
