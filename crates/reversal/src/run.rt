@@ -3,7 +3,7 @@
 ghost use mathlib.Core.Path.{_≡_};
 ghost use mathlib.Core.Bool.{true, false};
 ghost use mathlib.Core.Logic.{_≢_};
-ghost use Prim.Native.Nat.{ℕ, _≤_, _<_};
+ghost use Prim.Native.Nat.{ℕ, _<_};
 ghost use lib.ListN.{getD};
 ghost use Rattle.rules.specs.Plan.{plan-of};
 ghost use Rattle.bounds.specs.Tables.{Passes, TurnTable, Tables, Arrived};
@@ -12,11 +12,13 @@ use crate::glance::glance;
 use plan::slots::slot_at;
 use pullout::look::Look;
 
-// The point q is among the first of the points passed.
+// The point q is among the first of the points passed, or the list has no place for it.
 fn has_passed(passed: &[u32; 64], count: usize, q: u32) -> bool
-    requires { ⌜ count ≤ 64 ⌝ }
-    ensures { λ r. ⌜ (r ≡ false → (j : ℕ) → j < count → getD (now (passed .entry)) j 0 ≢ q) ⌝ }
+    ensures { λ r. ⌜ (r ≡ false → (count < 64) × ((j : ℕ) → j < count → getD (now (passed .entry)) j 0 ≢ q)) ⌝ }
 {
+    if 63 < count {
+        return true;
+    }
     let mut j = 0;
     while j < count {
         if passed[j] == q {
@@ -95,9 +97,6 @@ pub(crate) fn runs_out(
             Look::Last => return true,
             Look::On(q, n) => {
                 i += 1;
-                if 63 < i {
-                    return false;
-                }
                 if has_passed(&passed, i, q) {
                     return false;
                 }

@@ -49,7 +49,7 @@ add-i : tie.Need-add-i Inv-loop μ-loop
 add-i c = omega arith
 
 has-passed-requires : tie.Need-has-passed-requires Inv-loop μ-loop
-has-passed-requires c κs = omega arith
+has-passed-requires c κs = tt
 
 returns-3 : tie.Need-returns-3 Inv-loop μ-loop
 returns-3 c = says-no
@@ -66,7 +66,7 @@ loop-less c = omega arith
 loop-again : tie.Need-loop-again Inv-loop μ-loop
 loop-again c =
     let on = rw (c .before .before .before .before .seen .given .1) at (c .before .before .before .before .before .before .glance .ensures) in
-    running-more (c .before .before .before .before .before .before .before .before .before .loop .inv) on (c .before .has-passed .ensures (c .if1 .left)) (omega arith)
+    running-more (c .before .before .before .before .before .before .before .before .before .loop .inv) on (c .before .has-passed .ensures (c .if1 .left) .1) (omega arith)
 
 returns-4 : tie.Need-returns-4 Inv-loop μ-loop
 returns-4 c = says-no

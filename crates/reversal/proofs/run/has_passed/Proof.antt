@@ -15,17 +15,20 @@ Inv-loop passed count q j₀ j = (k : ℕ) → k < j → getD passed k 0 ≢ q
 abbrev μ-loop : tie.MeasureT-loop
 μ-loop passed count q j₀ j = count - j
 
+returns : tie.Need-returns Inv-loop μ-loop
+returns c = λ z. absurd (true≢false z)
+
 loop-holds : tie.Need-loop-holds Inv-loop μ-loop
 loop-holds c = λ k l. absurd (omega arith)
 
-mul-if1 : tie.Need-mul-if1 Inv-loop μ-loop
-mul-if1 c = omega arith
+mul-if2 : tie.Need-mul-if2 Inv-loop μ-loop
+mul-if2 c = omega arith
 
-element-copy-out-if1 : tie.Need-element-copy-out-if1 Inv-loop μ-loop
-element-copy-out-if1 c = omega arith
+element-copy-out-if2 : tie.Need-element-copy-out-if2 Inv-loop μ-loop
+element-copy-out-if2 c = omega arith
 
-returns : tie.Need-returns Inv-loop μ-loop
-returns c = λ z. absurd (true≢false z)
+returns-2 : tie.Need-returns-2 Inv-loop μ-loop
+returns-2 c = λ z. absurd (true≢false z)
 
 add-j : tie.Need-add-j Inv-loop μ-loop
 add-j c = omega arith
@@ -35,11 +38,11 @@ loop-less c = omega arith
 
 loop-again : tie.Need-loop-again Inv-loop μ-loop
 loop-again c =
-    let a = c .before .before .before .before .args in
-    none-more (a .passed .now) (a .q) (c .before .before .before .loop .inv) (c .if1 .left)
+    let a = c .before .before .before .before .before .args in
+    none-more (a .passed .now) (a .q) (c .before .before .before .loop .inv) (c .if2 .left)
 
-returns-2 : tie.Need-returns-2 Inv-loop μ-loop
-returns-2 c = λ z j l. c .before .loop .inv j (omega arith)
+returns-3 : tie.Need-returns-3 Inv-loop μ-loop
+returns-3 c = λ z. (omega arith, λ j l. c .before .loop .inv j (omega arith))
 
 pub has-passed-spec : {M : Type 1} → statement M
 has-passed-spec =
@@ -47,11 +50,12 @@ has-passed-spec =
     (tie.spec
     Inv-loop
     μ-loop
-    loop-holds
-    mul-if1
-    element-copy-out-if1
     returns
+    loop-holds
+    mul-if2
+    element-copy-out-if2
+    returns-2
     add-j
     loop-less
     loop-again
-    returns-2)
+    returns-3)

@@ -55,31 +55,29 @@ enum-known-seen c = c .match .keys3
 add-i : tie.Need-add-i Inv-loop μ-loop
 add-i c = omega (arith, c .before .before .before .before .before .before .loop .inv .1)
 
+has-passed-requires : tie.Need-has-passed-requires Inv-loop μ-loop
+has-passed-requires c κs = tt
+
 returns-2 : tie.Need-returns-2 Inv-loop μ-loop
 returns-2 c = says-no
 
-has-passed-requires : tie.Need-has-passed-requires Inv-loop μ-loop
-has-passed-requires c κs = omega arith
-
-returns-3 : tie.Need-returns-3 Inv-loop μ-loop
-returns-3 c = says-no
-
 mul-passed : tie.Need-mul-passed Inv-loop μ-loop
-mul-passed c = omega arith
+mul-passed c = let new = c .before .has-passed .ensures (c .if1 .left) in omega arith
 
 array-write-passed : tie.Need-array-write-passed Inv-loop μ-loop
-array-write-passed c = omega arith
+array-write-passed c = c .before .has-passed .ensures (c .if1 .left) .0
 
 loop-less-2 : tie.Need-loop-less-2 Inv-loop μ-loop
-loop-less-2 c = omega arith
+loop-less-2 c = let new = c .before .has-passed .ensures (c .if1 .left) in omega arith
 
 loop-again-2 : tie.Need-loop-again-2 Inv-loop μ-loop
 loop-again-2 c =
-    let on = rw (c .before .before .before .before .before .seen .given .1) at (c .before .before .before .before .before .before .before .glance .ensures) in
-    (running-more (c .before .before .before .before .before .before .before .before .before .before .loop .inv .0) on (c .before .has-passed .ensures (c .if2 .left)) (omega arith), omega arith)
+    let on = rw (c .before .before .before .before .seen .given .1) at (c .before .before .before .before .before .before .glance .ensures) in
+    let new = c .before .has-passed .ensures (c .if1 .left) in
+    (running-more (c .before .before .before .before .before .before .before .before .before .loop .inv .0) on (new .1) (new .0), new .0)
 
-returns-4 : tie.Need-returns-4 Inv-loop μ-loop
-returns-4 c = says-no
+returns-3 : tie.Need-returns-3 Inv-loop μ-loop
+returns-3 c = says-no
 
 pub runs-out-spec : {M : Type 1} → statement M
 runs-out-spec =
@@ -98,11 +96,10 @@ runs-out-spec =
     returns
     enum-known-seen
     add-i
-    returns-2
     has-passed-requires
-    returns-3
+    returns-2
     mul-passed
     array-write-passed
     loop-less-2
     loop-again-2
-    returns-4)
+    returns-3)
