@@ -49,3 +49,14 @@ inline const Plan loop{4,
 
 // Document 01's plan of three points, on which a walk needs no steps.
 inline const Plan three_points{3, {0, 1, 1000, 1, 700, 100, 1, 2, 900, 1, 900, 900}, {}};
+
+// The loop with a track at each side: a train comes from section 4 over 1 and has to leave by 2 and 5 for section 6.
+inline const Plan loop_between_tracks{7,
+                                      {0, 1, 300, 1, 300, 300, //
+                                       0, 3, 100, 0, 100, 100, //
+                                       0, 2, 200, 0, 200, 200, //
+                                       1, 2, 300, 0, 300, 300, //
+                                       3, 4, 900, 1, 0,   0,   //
+                                       2, 5, 10,  0, 10,  10,  //
+                                       5, 6, 700, 1, 700, 700},
+                                      {1, 2, 3, 5}};

@@ -252,15 +252,7 @@ void over_the_finish_section() {
 // "A pull-out that bends round a loop onto the section the train must leave by." Document 01's loop: the train comes from
 // section 4 over 1 and must leave by 2. The way round over 0 and 3 ends at the turn from 3 onto 5, where nothing takes it.
 void bends_round() {
-    Plan plan{7,
-              {0, 1, 300, 1, 300, 300, //
-               0, 3, 100, 0, 100, 100, //
-               0, 2, 200, 0, 200, 200, //
-               1, 2, 300, 0, 300, 300, //
-               3, 4, 900, 1, 0,   0,   //
-               2, 5, 10,  0, 10,  10,  //
-               5, 6, 700, 1, 700, 700},
-              {1, 2, 3, 5}};
+    Plan plan = loop_between_tracks;
     finds("the loop takes 600", plan, {600, 4, 0, 6, 0}, {100 + 800 + 10 + 700, 1, {2, 5, 11}});
     no_walk("the loop does not take 601", plan, {601, 4, 0, 6, 0});
     finds("a short train", plan, {1, 4, 0, 6, 0}, {100 + 201 + 10 + 700, 1, {2, 5, 11}});

@@ -94,22 +94,13 @@ inline void odd_tables(Run &run, const OddCase &base) {
 
 // Yard Y; a loop round which a pull-out bends; document 003's yard with stock.
 inline std::vector<OddCase> odd_bases() {
-    const Plan loop{7,
-                    {0, 1, 300, 1, 300, 300, //
-                     0, 3, 100, 0, 100, 100, //
-                     0, 2, 200, 0, 200, 200, //
-                     1, 2, 300, 0, 300, 300, //
-                     3, 4, 900, 1, 0,   0,   //
-                     2, 5, 10,  0, 10,  10,  //
-                     5, 6, 700, 1, 700, 700},
-                    {1, 2, 3, 5}};
     const Plan paper = with(paper_yard, [](Plan &plan) {
         plan.occupy(3, 2600, 0);
         plan.occupy(4, 0, 1590);
         plan.occupy(9, 0, 1860);
     });
     std::vector<OddCase> bases{{yard_y, {600, 3, 0, 4, 0}, {600, 2, 2}, {}},
-                               {loop, {600, 4, 0, 6, 0}, {600, 2, 2}, {}},
+                               {loop_between_tracks, {600, 4, 0, 6, 0}, {600, 2, 2}, {}},
                                {paper, {500, 9, 0, 3, 0}, {500, 45, 23}, {}}};
     Run unused{Finder{}};
     for (OddCase &base : bases) base.sheet = Site(unused, base.plan).judge(base.query)->sheet();
