@@ -60,3 +60,27 @@ inline const Plan loop_between_tracks{7,
                                        2, 5, 10,  0, 10,  10,  //
                                        5, 6, 700, 1, 700, 700},
                                       {1, 2, 3, 5}};
+
+// Two ways of equal length from the start, section 0, to section 5: over section 2, or over 1, 3 and 4.
+inline const Plan equal_ways = with(Plan{6, {}, {}}, [](Plan &plan) {
+    plan.join(0, 1, 500, 1);
+    plan.join(1, 2, 10);
+    plan.join(1, 4, 30);
+    plan.join(2, 3, 10);
+    plan.join(3, 4, 10);
+    plan.join(4, 5, 500, 1);
+    plan.occupy(0, 0, 0);
+});
+
+// The short way from the start, section 0, to point 2 goes over section 1 and arrives where the turn onto section 4 is forbidden; the
+// long way, over 2 and 3, runs on.
+inline const Plan short_way_turned = with(Plan{6, {}, {}}, [](Plan &plan) {
+    plan.join(0, 1, 1000, 1);
+    plan.join(1, 2, 100);
+    plan.join(1, 3, 300);
+    plan.join(3, 2, 100);
+    plan.join(2, 4, 50);
+    plan.join(4, 5, 1000, 1);
+    plan.occupy(0, 0, 0);
+    plan.forbid(1, 4);
+});

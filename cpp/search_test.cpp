@@ -192,18 +192,9 @@ void paper_table() {
         }
 }
 
-// "One distance per point instead of per arrival." The short way to point 2, over section 1, arrives where the turn onto
-// section 4 is forbidden; the long way, over 2 and 3, runs on.
+// "One distance per point instead of per arrival."
 void one_distance_per_point() {
-    Plan plan{6, {}, {}};
-    plan.join(0, 1, 1000, 1);
-    plan.join(1, 2, 100);
-    plan.join(1, 3, 300);
-    plan.join(3, 2, 100);
-    plan.join(2, 4, 50);
-    plan.join(4, 5, 1000, 1);
-    plan.occupy(0, 0, 0);
-    plan.forbid(1, 4);
+    Plan plan = short_way_turned;
     finds("no pull-out on the short way", plan, {401, 0, 1, 5, 0}, {1450, 0, {5, 7, 9}});
     finds("a pull-out on the short way, but a longer walk", plan, {301, 0, 1, 5, 0}, {1450, 0, {5, 7, 9}});
     finds("two equal walks, the reversal by smaller sections", plan, {300, 0, 1, 5, 0}, {1450, 1, {3, 9}});
@@ -346,15 +337,7 @@ void ties() {
     const uint32_t y = plan.join(19, 21, 500, 1);
     plan.occupy(0, 0, 0);
     finds("32 equal walks", plan, {400, 0, 1, y, 0}, {5 * 30 + 4 * 5 + 500, 0, arrivals});
-    // Two ways to y of equal length: over one section, or over three.
-    plan = Plan{6, {}, {}};
-    plan.join(0, 1, 500, 1);
-    plan.join(1, 2, 10);
-    plan.join(1, 4, 30);
-    plan.join(2, 3, 10);
-    plan.join(3, 4, 10);
-    plan.join(4, 5, 500, 1);
-    plan.occupy(0, 0, 0);
+    plan = equal_ways;
     finds("more steps, smaller sections", plan, {400, 0, 1, 5, 0}, {530, 0, {3, 7, 9}});
     std::swap(plan.sections[6 * 1 + 1], plan.sections[6 * 2 + 1]);
     for (uint32_t number : {2u, 4u, 5u}) std::swap(plan.sections[6 * 1 + number], plan.sections[6 * 2 + number]);

@@ -303,28 +303,13 @@ void past_32_bits() {
 
 // The check accepts any shortest walk, not only the first, with that walk's own numbers.
 void other_shortest_walks() {
-    Plan plan{6, {}, {}};
-    plan.join(0, 1, 500, 1);
-    plan.join(1, 2, 10);
-    plan.join(1, 4, 30);
-    plan.join(2, 3, 10);
-    plan.join(3, 4, 10);
-    plan.join(4, 5, 500, 1);
-    plan.occupy(0, 0, 0);
+    Plan plan = equal_ways;
     const Query query{400, 0, 1, 5, 0};
     List labels = second::search(plan, query, List(6), List(12)).labels;
     gives("more steps", plan, query, {1, {3, 7, 9}, labels}, {0, 0, 530, 0, 3});
     gives("fewer steps", plan, query, {1, {5}, labels}, {0, 0, 530, 0, 1});
     // A reversal of 300 on the short way, or the long way.
-    plan = Plan{6, {}, {}};
-    plan.join(0, 1, 1000, 1);
-    plan.join(1, 2, 100);
-    plan.join(1, 3, 300);
-    plan.join(3, 2, 100);
-    plan.join(2, 4, 50);
-    plan.join(4, 5, 1000, 1);
-    plan.occupy(0, 0, 0);
-    plan.forbid(1, 4);
+    plan = short_way_turned;
     const auto labels_for = [&](uint32_t length) {
         return second::search(plan, {length, 0, 1, 5, 0}, List(6), List(12)).labels;
     };

@@ -2,7 +2,7 @@
 mod asked;
 pub mod copy;
 pub mod look;
-pub mod marks;
+mod marks;
 pub mod search;
 
 ghost use mathlib.Core.Path.{_≡_};

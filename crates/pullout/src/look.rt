@@ -20,7 +20,7 @@ pub enum Look {
 }
 
 // The look at section e by itself.
-pub fn look_at(
+pub(crate) fn look_at(
     sections: &[u32],
     turns: &[u32],
     table: &[u32; 1536],

@@ -22,7 +22,7 @@ pub(crate) fn is_marked(t: Try, q: u32) -> bool
 }
 
 // The first try, from point p, for the length n.
-pub fn first_try(p: u32, n: u32) -> Try
+pub(crate) fn first_try(p: u32, n: u32) -> Try
     requires { ⌜ p < 768 ⌝ }
     ensures { λ r. ⌜ Begun p n r ⌝ }
 {
@@ -33,7 +33,7 @@ pub fn first_try(p: u32, n: u32) -> Try
 }
 
 // The try that goes on past point q, over a section of length n.
-pub fn go_past(mut t: Try, q: u32, n: u32) -> Try
+pub(crate) fn go_past(mut t: Try, q: u32, n: u32) -> Try
     requires { ⌜ Covers t × (q < 768) × T (not (marked t q)) × (n ≤ t .left) ⌝ }
     ensures { λ r. ⌜ Past t q n r ⌝ }
 {

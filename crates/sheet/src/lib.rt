@@ -1,5 +1,6 @@
 // The sheet checker. A sheet claims a shortest walk, or that there is no route, and gives a label for each arrival as evidence. The checker
-// never looks for a walk: it makes the table of steps and compares the sheet with it. What it accepts is right, whoever wrote the labels:
+// never looks for a walk: it makes the table of steps and compares the sheet with it, but for a sheet that has nothing to compare
+// (nothing.rt). What it accepts is right, whoever wrote the labels:
 // an accepted list is a shortest admissible walk, and an accepted "no route" means that none exists. And what is right it accepts: the
 // remaining distances with any shortest walk, or with "no route" where there is none, with the walk's own numbers as the answer. Both
 // halves follow from the contract of `check_sheet`: proofs/Demand.antt has them as `accepted-is-shortest` and `accepted-no-route`,
