@@ -1,21 +1,19 @@
 -- Marks that are put one by one: what is marked afterwards, and how many points are left.
 -- Assumes nothing.
-use mathlib.Core.Path.{_≡_, refl, sym, _∙_}
+use mathlib.Core.Path.{_≡_, refl, sym}
 use mathlib.Core.Logic.{_≢_, _⊎_, inl, inr}
 use mathlib.Core.Bool.{Bool, true, false, not, _||_, true≢false, false≢true}
 use mathlib.Core.List.{List}
 use Prim.Native.Nat.{ℕ, zero, suc, _+_, _-_, _≤_, _<_}
 use native.Mathlib.Nat.{eq-or-lt-of-le}
 use native.Mathlib.Omega.{arith}
-use native.Mathlib.Decide.{ℕ-discrete}
 use borrow.Author.Tests.{eq-eqb, ne-eqb}
 use lib.Dec.{T, eqb}
-use lib.ListN.{length, getD, set, length-set, replicate, length-replicate}
-use lib.Seq.{getD-set-same, getD-set-other}
 use Rattle.rules.specs.Ranges.{count-of}
 use Rattle.rules.proofs.Tests.{gives-true}
 use Rattle.rules.proofs.Ranges.{count-le}
 use Rattle.rules.proofs.Ways.{only, mark}
+use Rattle.points.specs.Points.{member, Empty, Put}
 use Rattle.pullout.specs.declared.marks.Try.{Try}
 use Rattle.pullout.specs.Marks.{marked, Covers, unmarked, Begun, Past}
 
@@ -63,59 +61,31 @@ count-less f q m l b =
       count-one (mark q f) f q 0 m (omega arith) (omega arith) (rw (eq-eqb q q refl) refl) b (λ k n. rw (ne-eqb k q n) refl),
     )
 
--- the mark that is kept as a number
-abbrev put-in : List ℕ → ℕ → Bool
-put-in ms k = not (eqb (getD ms k 0) 0)
-
-put-one : (ms : List ℕ) (q : ℕ) → q < length ms → (k : ℕ) → put-in (set ms q 1) k ≡ mark q (put-in ms) k
-put-one ms q l k = go (ℕ-discrete k q)
-  where
-    go : Dec (k ≡ q) → put-in (set ms q 1) k ≡ mark q (put-in ms) k
-    go (yes e) = rw (eq-eqb k q e, e, getD-set-same ms q 1 0 l) refl
-    go (no e) = rw (ne-eqb k q e, getD-set-other ms q k 1 0 e) refl
-
--- no marks
-no-mark : (n k : ℕ) → _≡_ {A = ℕ} (getD (replicate n 0) k 0) 0
-no-mark zero k = refl
-no-mark (suc n) zero = refl
-no-mark (suc n) (suc k) = no-mark n k
-
--- the first try: of n points the mark of one is put
-begun-marks : (n p : ℕ) → p < n → (k : ℕ) → put-in (set (replicate n 0) p 1) k ≡ only p k
-begun-marks n p l k = put-one (replicate n 0) p (rw (length-replicate {A = ℕ} n 0) l) k ∙ rw (no-mark n k) (or-false (eqb k p))
+-- the first try: of no marks one is put
+pub begun : {t : Try} {none : List ℕ} {n p : ℕ} → p < 768 → Empty none → Put none p (t .marks) → t .left ≡ n → Begun p n t
+unfolding marked Covers unmarked
+begun {t} {none} {n} {p} l e m i =
+    record { covers = m .whole; left = i; marks = marks; fewer = count-less (λ k. not (member (t .marks) k)) p 768 l (rw (marks p, eq-eqb p p refl) refl) }
   where
     or-false : (b : Bool) → (b || false) ≡ b
     or-false true = refl
     or-false false = refl
 
-pub begun : {t : Try} {n p : ℕ} → p < 768 → t .marks ≡ set (replicate 768 0) p 1 → t .left ≡ n → Begun p n t
-unfolding marked Covers unmarked
-begun {t} {n} {p} l e i =
-    let marks = begun-marks 768 p l in
-    record {
-      covers = rw (e, length-set) (length-replicate {A = ℕ} 768 0);
-      left = i;
-      marks = λ k. rw e (marks k);
-      fewer = rw e (count-less (λ k. not (put-in (set (replicate 768 0) p 1) k)) p 768 l (rw (marks p, eq-eqb p p refl) refl));
-    }
+    marks : (k : ℕ) → member (t .marks) k ≡ only p k
+    marks k = rw (m .members k, e .members k) (or-false (eqb k p))
 
 -- of the first m points one fewer is left
-one-fewer : (ms : List ℕ) (q m : ℕ) → q < m → q < length ms → T (not (put-in ms q))
-    → count-of (λ k. not (put-in ms k)) 0 m ≡ count-of (λ k. not (put-in (set ms q 1) k)) 0 m + 1
-one-fewer ms q m l h u =
+one-fewer : (f g : ℕ → Bool) (q m : ℕ) → q < m → T (not (f q)) → ((k : ℕ) → g k ≡ mark q f k)
+    → count-of (λ k. not (f k)) 0 m ≡ count-of (λ k. not (g k)) 0 m + 1
+one-fewer f g q m l u e =
     omega (
       arith,
-      count-one (λ k. not (put-in ms k)) (λ k. not (put-in (set ms q 1) k)) q 0 m (omega arith) (omega arith) (sym (gives-true u))
-          (rw (put-one ms q h q, eq-eqb q q refl) refl) (λ k n. rw (put-one ms q h k, ne-eqb k q n) refl),
+      count-one (λ k. not (f k)) (λ k. not (g k)) q 0 m (omega arith) (omega arith) (sym (gives-true u)) (rw (e q, eq-eqb q q refl) refl)
+          (λ k n. rw (e k, ne-eqb k q n) refl),
     )
 
 -- a try that goes on
-pub past : {t r : Try} {q n : ℕ} → Covers t → q < 768 → T (not (marked t q)) → r .marks ≡ set (t .marks) q 1 → r .left ≡ t .left - n → Past t q n r
+pub past : {t r : Try} {q n : ℕ} → q < 768 → T (not (marked t q)) → Put (t .marks) q (r .marks) → r .left ≡ t .left - n → Past t q n r
 unfolding marked Covers unmarked
-past {t} {r} {q} {n} c l u e i =
-    record {
-      covers = rw (e, length-set) c;
-      left = i;
-      marks = λ k. rw e (put-one (t .marks) q (rw c l) k);
-      fewer = rw e (one-fewer (t .marks) q 768 l (rw c l) u);
-    }
+past {t} {r} {q} l u m i =
+    record { covers = m .whole; left = i; marks = m .members; fewer = one-fewer (member (t .marks)) (member (r .marks)) q 768 l u (m .members) }

@@ -3,19 +3,18 @@
 use mathlib.Core.Path.{_≡_}
 use mathlib.Core.Bool.{Bool, not}
 use Prim.Native.Nat.{ℕ, _+_, _-_, _<_}
-use lib.Dec.{eqb}
-use lib.ListN.{length, getD}
 use Rattle.rules.specs.Ranges.{count-of}
 use Rattle.rules.proofs.Ways.{only, mark}
+use Rattle.points.specs.Points.{Whole, member}
 use Rattle.pullout.specs.declared.marks.Try.{Try}
 
 -- the try has passed point k
 unfoldable pub marked : Try → ℕ → Bool
-marked t k = not (eqb (getD (t .marks) k 0) 0)
+marked t k = member (t .marks) k
 
 -- the try keeps a mark, put or not, for each of the 768 points
 unfoldable pub Covers : Try → Type 0
-Covers t = length (t .marks) ≡ 768
+Covers t = Whole (t .marks)
 
 -- how many of the 768 points have no mark
 unfoldable pub unmarked : Try → ℕ

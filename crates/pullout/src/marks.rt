@@ -5,10 +5,12 @@ ghost use mathlib.Core.Bool.{not};
 ghost use Prim.Native.Nat.{_≤_, _<_};
 ghost use lib.Dec.{T};
 ghost use Rattle.pullout.specs.Marks.{marked, Covers, Begun, Past};
-use plan::read::wide;
+use points::has;
+use points::no_points;
+use points::put;
 
 pub struct Try {
-    marks: [u8; 768],
+    marks: [u32; 24],
     pub left: u32,
 }
 
@@ -17,8 +19,7 @@ pub(crate) fn is_marked(t: Try, q: u32) -> bool
     requires { ⌜ q < 768 ⌝ }
     ensures { λ r. ⌜ r ≡ marked t q ⌝ }
 {
-    let at = wide(q);
-    t.marks[at] != 0
+    has(&t.marks, q)
 }
 
 // The first try, from point p, for the length n.
@@ -26,9 +27,8 @@ pub(crate) fn first_try(p: u32, n: u32) -> Try
     requires { ⌜ p < 768 ⌝ }
     ensures { λ r. ⌜ Begun p n r ⌝ }
 {
-    let mut marks = [0u8; 768];
-    let at = wide(p);
-    marks[at] = 1;
+    let mut marks = no_points();
+    put(&mut marks, p);
     Try { marks, left: n }
 }
 
@@ -37,8 +37,7 @@ pub(crate) fn go_past(mut t: Try, q: u32, n: u32) -> Try
     requires { ⌜ Covers t × (q < 768) × T (not (marked t q)) × (n ≤ t .left) ⌝ }
     ensures { λ r. ⌜ Past t q n r ⌝ }
 {
-    let at = wide(q);
-    t.marks[at] = 1;
+    put(&mut t.marks, q);
     t.left = t.left - n;
     t
 }

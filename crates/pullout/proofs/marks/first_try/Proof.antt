@@ -6,14 +6,14 @@ use borrow.Author.Needs.{needs}
 use Rattle.pullout.proofs.marks.first_try.Statement.{statement}
 use Rattle.pullout.proofs.marks.first_try.Tie as tie
 
-wide-requires : tie.Need-wide-requires
-wide-requires c κs = search needs
+no-points-requires : tie.Need-no-points-requires
+no-points-requires c κs = search needs
 
-array-write-marks : tie.Need-array-write-marks
-array-write-marks c = search needs
+put-requires : tie.Need-put-requires
+put-requires c κs = search needs
 
 returns : tie.Need-returns
-returns c = begun (c .before .pre) (rw (c .wide .ensures .0) refl) refl
+returns c = begun (c .before .before .before .pre) (c .before .before .no-points .ensures) (c .put .ensures) refl
 
 pub first-try-spec : {M : Type 1} → statement M
-first-try-spec = tie.close (tie.spec wide-requires array-write-marks returns)
+first-try-spec = tie.close (tie.spec no-points-requires put-requires returns)

@@ -1,0 +1,54 @@
+-- One bit of a word: what `or` makes of it, and how shift and mask find it.
+-- Assumes nothing.
+use mathlib.Core.Path.{_≡_, refl, ap, _∙_, subst}
+use mathlib.Core.Logic.{_≢_}
+use mathlib.Core.Bool.{Bool, true, false}
+use Prim.Native.Nat.{ℕ, zero, suc, _+_, _-_, _*_, _/_, _%_, _^_, _<_}
+use native.Mathlib.Omega.{arith}
+use native.Mathlib.Nat.{div-self, div-eq-of-lt, mul-mod-left, mod-lt}
+use borrow.Author.Tests.{ltb-true, ltb-false}
+use lib.Dec.{ltb}
+use lib.Pow.{pow-pos, pow-lt, pow-add, shl-shr, shl-exact}
+use lib.Bits.{bitAnd, bitOr, and-mask, and-le-r, or-shr, or-mod, or-zero-r}
+use Rattle.points.specs.Points.{bit}
+
+-- a masked number is a place in a word
+pub mask-low : (p m : ℕ) → m < 32 → bitAnd p m < 32
+mask-low p m l = omega (arith, and-le-r p m)
+
+-- the word that has this bit alone
+pub shifted-one : (p : ℕ) → 1 * 2 ^ bitAnd p 31 % 4294967296 ≡ 2 ^ (p % 32)
+shifted-one p = rw (and-mask p 5) (shl-exact {a = 1} 1 (p % 32) 32 (omega arith) (omega (arith, mod-lt p {m = 32} (omega arith))) ∙ omega arith)
+
+-- the bit, shifted down and cut off
+pub shifted-down : (w p : ℕ) → bitAnd (w / 2 ^ bitAnd p 31) 1 ≡ bit w (p % 32)
+shifted-down w p = rw (and-mask p 5) (and-mask (w / 2 ^ (p % 32)) 1)
+
+bit-or : (x y b : ℕ) → bit (bitOr x y) b ≡ bitOr (bit x b) (bit y b)
+bit-or x y b = rw (or-shr x y b) (or-mod (x / 2 ^ b) (y / 2 ^ b) 1)
+
+-- a power of two has one bit
+power-bit : (b : ℕ) → bit (2 ^ b) b ≡ 1
+power-bit b = rw (div-self (pow-pos b)) refl
+
+power-above : (j k : ℕ) → bit (2 ^ (j + 1 + k)) k ≡ 0
+power-above j k = rw (pow-add 2 (j + 1) k, shl-shr (2 ^ (j + 1)) k, pow-add 2 j 1) (mul-mod-left (2 ^ j) 2)
+
+power-other : (b k : ℕ) → k ≢ b → bit (2 ^ b) k ≡ 0
+power-other b k n = go (ltb k b) refl
+  where
+    go : (t : Bool) → ltb k b ≡ t → bit (2 ^ b) k ≡ 0
+    go true e = let l = ltb-true k b e in subst (λ (x : ℕ). bit (2 ^ x) k ≡ 0) (omega arith) (power-above (b - k - 1) k)
+    go false e = let l = ltb-false k b e in let h : b < k = omega arith in rw (div-eq-of-lt (pow-lt h)) refl
+
+or-one : (x : ℕ) → x < 2 → bitOr x 1 ≡ 1
+or-one zero l = refl
+or-one (suc zero) l = refl
+or-one (suc (suc x)) l = absurd (omega arith)
+
+-- the bit that is put, and the others
+pub put-bit : (w b : ℕ) → bit (bitOr w (2 ^ b)) b ≡ 1
+put-bit w b = bit-or w (2 ^ b) b ∙ ap (λ (x : ℕ). bitOr (bit w b) x) (power-bit b) ∙ or-one (bit w b) (mod-lt (w / 2 ^ b) (omega arith))
+
+pub put-other : (w b k : ℕ) → k ≢ b → bit (bitOr w (2 ^ b)) k ≡ bit w k
+put-other w b k n = bit-or w (2 ^ b) k ∙ ap (λ (x : ℕ). bitOr (bit w k) x) (power-other b k n) ∙ or-zero-r (bit w k)

@@ -1,0 +1,2 @@
+-- What this crate says: which points are in a set.
+pub mod Points
