@@ -1,7 +1,7 @@
 -- A try that goes on over a section: what it then looks for, and what is known of it.
 -- Assumes nothing.
 use mathlib.Core.Path.{_≡_, refl, sym, _∙_}
-use mathlib.Core.Logic.{_≢_, _⊎_, ⊎-elim, inl, inr}
+use mathlib.Core.Logic.{⊎-elim}
 use mathlib.Core.Bool.{Bool}
 use mathlib.Core.List.{List, _∷_}
 use Prim.Native.Nat.{ℕ, _+_, _*_, _≤_, _<_}
@@ -19,8 +19,7 @@ use Rattle.bounds.proofs.ThreeSlots.{in-slot, ascending}
 use Rattle.pullout.specs.declared.marks.Try.{Try}
 use Rattle.pullout.specs.Marks.{marked, Past}
 use Rattle.pullout.specs.Looked.{Goes, GoesOn, Bounded}
-use Rattle.pullout.specs.Tried.{Heads, Over, Tried}
-use Rattle.pullout.proofs.Trying.{found-first, found-second, tried-third}
+use Rattle.pullout.specs.Tried.{Heads}
 
 module _ {ss ts : List ℕ} {c s : ℕ} {t : Try} {h p e q n : ℕ} (g : GoesOn ss ts c s t h p e q n) where
   pub on-low : Passes ss ts → q < 768
@@ -60,41 +59,26 @@ module _ {ss ts : List ℕ} {c s : ℕ} {t : Try} {h p e q n : ℕ} (g : GoesOn 
         (held-on (passed-joined ok) (b .right) (a .inside) (a .touch) (b .held) (g .enters) (g .free) shorter (rw (g .far) at (g .new))) in
         record { right = b .right; held = held-marks more u }
 
--- a way from p begins with one of the sections in p's slots
-pub in-slots : {ss ts slots table : List ℕ} → Tables ss ts slots table → (c s : ℕ) {n h p x y z : ℕ} {marks : ℕ → Bool} → x ≡ getD slots (3 * p + 0) 0
-    → y ≡ getD slots (3 * p + 1) 0 → z ≡ getD slots (3 * p + 2) 0 → (qs : List ℕ) → Way (plan-of 0 ss ts) (may-use any-section c s) n h p marks qs
-    → Heads x qs ⊎ (Heads y qs ⊎ Heads z qs)
-in-slots {ss} {ts} tables c s {n} {h} {p} {x} {y} {z} {marks} i j k qs w = go qs w
-  where
-    at : (q : ℕ) → Enters ss ts c s h p q → (q ≡ x) ⊎ ((q ≡ y) ⊎ (q ≡ z))
-    at q f =
-        let ok = tables .checked in
-        ⊎-elim (λ e. inl (e ∙ sym i)) (⊎-elim (λ e. inr (inl (e ∙ sym j))) (λ e. inr (inr (e ∙ sym k))))
-        (in-slot (passed-joined ok) (passed-three ok) (tables .slotted) q p (f .inside) (f .touch))
-
-    go : (qs : List ℕ) → Way (plan-of 0 ss ts) (may-use any-section c s) n h p marks qs → Heads x qs ⊎ (Heads y qs ⊎ Heads z qs)
-    go qs (last {q} f e) = at q f
-    go qs (next {q} f e l m v) = at q f
-
+-- the sections at the point p: what stands in its slots
 module _ {ss ts slots table : List ℕ} (tables : Tables ss ts slots table) {h p : ℕ} (a : Arrived ss h p) where
-  pub slots-ascend : (j k : ℕ) {x y : ℕ} → j < k → k < 3 → x ≡ getD slots (3 * p + j) 0 → y ≡ getD slots (3 * p + k) 0 → x ≤ y
-  slots-ascend j k l m e f =
+  abbrev slot : ℕ → ℕ
+  slot k = getD slots (3 * p + k) 0
+
+  pub slots-ascend : (j k : ℕ) → j < k → k < 3 → slot j ≤ slot k
+  slots-ascend j k l m =
       let ok = tables .checked in
-      omega (arith, ascending (passed-joined ok) (passed-three ok) (tables .slotted) p j k (arrived-low ok a) l m)
+      ascending (passed-joined ok) (passed-three ok) (tables .slotted) p j k (arrived-low ok a) l m
 
-  -- so the tries of its three sections, in their order, make the try of the point
-  module _ (c s : ℕ) (t : Try) {b : List ℕ} {d x : ℕ} (i : x ≡ getD slots (3 * p + 0) 0) where
-    pub point-first : {n : ℕ} {o : List ℕ} → Tried (Over (Goes ss ts c s t h p) x) b d n o → n ≢ 0 → Tried (Goes ss ts c s t h p) b d n o
-    point-first =
-        found-first (in-slots tables c s i refl refl) (slots-ascend 0 1 (omega arith) (omega arith) i refl) (slots-ascend 1 2 (omega arith) (omega arith) refl refl)
+  -- what a try looks for begins with one of them
+  pub in-slots : (c s : ℕ) (t : Try) (qs : List ℕ) → Goes ss ts c s t h p qs → (k : ℕ) × (k < 3) × Heads (slot k) qs
+  in-slots c s t qs w = go qs w
+    where
+      at : (q : ℕ) → Enters ss ts c s h p q → (k : ℕ) × (k < 3) × (q ≡ slot k)
+      at q f =
+          let ok = tables .checked in
+          ⊎-elim (λ e. (0, omega arith, e)) (⊎-elim (λ e. (1, omega arith, e)) (λ e. (2, omega arith, e)))
+          (in-slot (passed-joined ok) (passed-three ok) (tables .slotted) q p (f .inside) (f .touch))
 
-    pub point-second : {y n m : ℕ} {o u : List ℕ} → y ≡ getD slots (3 * p + 1) 0 → Tried (Over (Goes ss ts c s t h p) x) b d n o → n ≡ 0
-        → Tried (Over (Goes ss ts c s t h p) y) o d m u → m ≢ 0 → Tried (Goes ss ts c s t h p) b d m u
-    point-second j =
-        found-second (in-slots tables c s i j refl) (slots-ascend 0 1 (omega arith) (omega arith) i j) (slots-ascend 1 2 (omega arith) (omega arith) j refl)
-
-    pub point-third : {y z n m l : ℕ} {o u v : List ℕ} → y ≡ getD slots (3 * p + 1) 0 → z ≡ getD slots (3 * p + 2) 0
-        → Tried (Over (Goes ss ts c s t h p) x) b d n o → n ≡ 0 → Tried (Over (Goes ss ts c s t h p) y) o d m u → m ≡ 0
-        → Tried (Over (Goes ss ts c s t h p) z) u d l v → Tried (Goes ss ts c s t h p) b d l v
-    point-third j k q w r o f =
-        tried-third (in-slots tables c s i j k) (slots-ascend 0 1 (omega arith) (omega arith) i j) (slots-ascend 1 2 (omega arith) (omega arith) j k) q w r o f
+      go : (qs : List ℕ) → Goes ss ts c s t h p qs → (k : ℕ) × (k < 3) × Heads (slot k) qs
+      go qs (last {q} f e) = at q f
+      go qs (next {q} f e l m v) = at q f

@@ -1,10 +1,11 @@
 -- How a search for the smallest list is made of smaller searches: over a section, and over the sections of a point.
 -- Assumes nothing.
 use mathlib.Core.Path.{_≡_, refl, sym, ap, _∙_}
-use mathlib.Core.Logic.{_≢_, _⊎_, ⊎-elim}
+use mathlib.Core.Logic.{_≢_, _⊎_, ⊎-elim, inl, inr}
 use mathlib.Core.List.{List, [], _∷_}
 use Prim.Native.Nat.{ℕ, suc, _+_, _≤_, _<_}
 use native.Mathlib.Nat.{eq-or-lt-of-le}
+use native.Mathlib.Decide.{decLt}
 use native.Mathlib.Numerals.{add-one}
 use native.Mathlib.Omega.{arith}
 use lib.ListN.{length, set}
@@ -64,33 +65,45 @@ later l (q ∷ qs) [] u least v = absurd (v .0)
 later {x} {y} l (q ∷ qs) (r ∷ rs) u least v =
     ⊎-elim (λ e. least (r ∷ rs) (v .0 ∙ sym e, v .1)) (λ h. let i = u .0 in let j = v .0 in lower (omega arith)) (eq-or-lt-of-le l)
 
--- a search over three sections, tried in their order, with which all the lists begin
-module _ {P : List ℕ → Type 0} {b : List ℕ} {d x y z : ℕ} (all : (qs : List ℕ) → P qs → Heads x qs ⊎ (Heads y qs ⊎ Heads z qs)) (l : x ≤ y) (m : y ≤ z) where
-  pub found-first : {n : ℕ} {a : List ℕ} → Tried (Over P x) b d n a → n ≢ 0 → Tried P b d n a
-  found-first (none i w miss) h = absurd (h i)
-  found-first (smallest qs i pos fit w p least) h = smallest qs i pos fit w (p .1) go
-    where
-      go : (rs : List ℕ) → P rs → NotAfter qs rs
-      go rs r =
-          ⊎-elim (λ u. least rs (u, r)) (⊎-elim (λ u. later {P = P} l qs rs p least (u, r)) (λ u. later {P = P} {y = z} (omega arith) qs rs p least (u, r))) (all rs r)
+-- a search in vain: nothing was written
+pub missed : {P : List ℕ → Type 0} {b a : List ℕ} {d n : ℕ} → Tried P b d n a → n ≡ 0 → (a ≡ b) × ((qs : List ℕ) → P qs → ⊥)
+missed (none i w miss) z = (w, miss)
+missed (smallest qs i pos fit w p least) z = absurd (omega arith)
 
-  -- the first was tried in vain
-  pub found-second : {n o : ℕ} {a c : List ℕ} → Tried (Over P x) b d n a → n ≡ 0 → Tried (Over P y) a d o c → o ≢ 0 → Tried P b d o c
-  found-second (smallest qs i pos fit w p least) h t k = absurd (omega arith)
-  found-second (none j v nil) h (none i w miss) k = absurd (k i)
-  found-second (none j v nil) h (smallest qs i pos fit w p least) k = smallest qs i pos (rw v at fit) (rw v at w) (p .1) go
-    where
-      go : (rs : List ℕ) → P rs → NotAfter qs rs
-      go rs r = ⊎-elim (λ u. absurd (nil rs (u, r))) (⊎-elim (λ u. least rs (u, r)) (λ u. later {P = P} m qs rs p least (u, r))) (all rs r)
+-- a search over sections that ascend, one by one
+module _ (P : List ℕ → Type 0) (section : ℕ → ℕ) where
+  -- no list begins with one of the first j of them
+  abbrev pub Vain : ℕ → Type 0
+  Vain j = (k : ℕ) → k < j → (qs : List ℕ) → Over P (section k) qs → ⊥
 
-  -- and the second too
-  pub tried-third : {n o : ℕ} {a c : List ℕ} → Tried (Over P x) b d n a → n ≡ 0 → Tried (Over P y) a d o c → o ≡ 0 → {q : ℕ} {f : List ℕ}
-      → Tried (Over P z) c d q f → Tried P b d q f
-  tried-third (smallest qs i pos fit w p least) h t k s = absurd (omega arith)
-  tried-third (none j v nil) h (smallest qs i pos fit w p least) k s = absurd (omega arith)
-  tried-third (none j v nil) h (none i w miss) k (none g u gone) =
-      none g (u ∙ w ∙ v) (λ rs r. ⊎-elim (λ o. nil rs (o, r)) (⊎-elim (λ o. miss rs (o, r)) (λ o. gone rs (o, r))) (all rs r))
-  tried-third (none j v nil) h (none i w miss) k (smallest qs g pos fit u p least) = smallest qs g pos (rw (w ∙ v) at fit) (rw (w ∙ v) at u) (p .1) go
+  pub vain-none : Vain 0
+  vain-none k l = absurd (omega arith)
+
+  pub vain-more : {j e : ℕ} → Vain j → e ≡ section j → ((qs : List ℕ) → Over P e qs → ⊥) → Vain (j + 1)
+  vain-more {j} v i n k l = go (decLt k j)
     where
-      go : (rs : List ℕ) → P rs → NotAfter qs rs
-      go rs r = ⊎-elim (λ o. absurd (nil rs (o, r))) (⊎-elim (λ o. absurd (miss rs (o, r))) (λ o. least rs (o, r))) (all rs r)
+      go : Dec (k < j) → (qs : List ℕ) → Over P (section k) qs → ⊥
+      go (yes h) = v k h
+      go (no h) = let z : k ≡ j = omega arith in rw (z, ← i) n
+
+  -- all the lists begin with one of m of them; up to the first j nothing was written
+  module _ {m : ℕ} (all : (qs : List ℕ) → P qs → (k : ℕ) × (k < m) × Heads (section k) qs) {j : ℕ} (v : Vain j) {b o : List ℕ} (same : o ≡ b) {d : ℕ} where
+    pub all-vain : m ≤ j → Tried P b d 0 o
+    all-vain l = none refl same (λ qs p. let a = all qs p in v (a .0) (omega (arith, a .1)) qs (a .2, p))
+
+    -- the first that is not tried in vain gives the smallest list
+    pub first-found : {e n : ℕ} {a : List ℕ} → ((i k : ℕ) → i < k → k < m → section i ≤ section k) → e ≡ section j → Tried (Over P e) o d n a → n ≢ 0
+        → Tried P b d n a
+    first-found ascend i (none y w miss) z = absurd (z y)
+    first-found ascend i (smallest qs y pos fit w p least) z = smallest qs y pos (rw same at fit) (rw same at w) (p .1) go
+      where
+        from : (rs : List ℕ) → P rs → (k : ℕ) → k < m → Heads (section k) rs → (j ≡ k) ⊎ (j < k) → NotAfter qs rs
+        from rs r k l u (inl e) = least rs (rw (i, e) u, r)
+        from rs r k l u (inr h) = later {P = P} (rw i (ascend j k h l)) qs rs p least (u, r)
+
+        at : (rs : List ℕ) → P rs → (k : ℕ) → k < m → Heads (section k) rs → Dec (k < j) → NotAfter qs rs
+        at rs r k l u (yes h) = absurd (v k h rs (u, r))
+        at rs r k l u (no h) = from rs r k l u (eq-or-lt-of-le (omega arith))
+
+        go : (rs : List ℕ) → P rs → NotAfter qs rs
+        go rs r = let a = all rs r in at rs r (a .0) (a .1) (a .2) (decLt (a .0) j)

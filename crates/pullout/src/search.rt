@@ -38,18 +38,16 @@ fn try_point(
     requires { ⌜ Tables (now sections) (now turns) (now slots) (now table) × Arrived (now sections) h p × Bounded (now sections) (now turns) (now cut) c s t h p × Covers t × (d + unmarked t < length (now out)) ⌝ }
     ensures { λ r. ⌜ Tried (Goes (now (sections .entry)) (now (turns .entry)) c s t h p) (now (out .entry)) d r (now (out .exit)) ⌝ }
 {
-    let x = slot_at(slots, p, 0);
-    let first = try_section(sections, turns, slots, table, cut, out, t, c, s, h, p, x, d);
-    if first != 0 {
-        return first;
+    let mut j = 0;
+    while j < 3 {
+        let e = slot_at(slots, p, j);
+        let found = try_section(sections, turns, slots, table, cut, out, t, c, s, h, p, e, d);
+        if found != 0 {
+            return found;
+        }
+        j += 1;
     }
-    let y = slot_at(slots, p, 1);
-    let second = try_section(sections, turns, slots, table, cut, out, t, c, s, h, p, y, d);
-    if second != 0 {
-        return second;
-    }
-    let z = slot_at(slots, p, 2);
-    try_section(sections, turns, slots, table, cut, out, t, c, s, h, p, z, d)
+    0
 }
 
 // Tries section e at the point p: by itself, or on from its far point.

@@ -2,17 +2,17 @@
 -- unmarked points, that of a point's try one more: a point tries its sections with the same marks, a section tries its far point
 -- with one mark more.
 -- Assumes nothing.
-use mathlib.Core.Path.{_∙_}
+use mathlib.Core.Path.{_≡_, refl, ap, _∙_}
 use native.Mathlib.Omega.{arith}
-use lib.ListN.{length-set}
+use lib.ListN.{length, getD, length-set}
 use Rattle.rules.proofs.Ways.{last as by-itself}
 use Rattle.bounds.proofs.Entering.{arrived-low}
 use Rattle.pullout.specs.Marks.{unmarked}
 use Rattle.pullout.specs.Looked.{Goes}
 use Rattle.pullout.proofs.Looking.{on-fits}
-use Rattle.pullout.proofs.Going.{on-low, on-arrived, from-there, to-there, on-bounded, point-first, point-second, point-third}
-use Rattle.pullout.proofs.Trying.{over-none, over-last, over-missed, over-found}
-use Prim.Native.Nat.{ℕ, _+_, _<_}
+use Rattle.pullout.proofs.Going.{on-low, on-arrived, from-there, to-there, on-bounded, slots-ascend, in-slots}
+use Rattle.pullout.proofs.Trying.{over-none, over-last, over-missed, over-found, missed, Vain, vain-none, vain-more, all-vain, first-found}
+use Prim.Native.Nat.{ℕ, _+_, _-_, _*_, _≤_, _<_}
 use borrow.Fn.Kinds.{In}
 use borrow.Fn.PlainCycle.{Measures, is, falls, and}
 use Rattle.pullout.proofs.search.try_point.Reads as try-point
@@ -54,78 +54,74 @@ point-calls t = (slot-at-reads.Asked, slot-at-reads.Learnt, try-section-below t,
 abbrev section-calls : ℕ → try-section-lts.Claims
 section-calls t = (look-ahead-reads.Asked, look-ahead-reads.Learnt, go-past-reads.Asked, go-past-reads.Learnt, try-point-below t, try-point.Post)
 
-try-point-slot-at-requires : (t : ℕ) → try-point-lts.Need-slot-at-requires (point-calls t) (try-point-at t) try-point.Post
+abbrev try-point-Inv-loop : try-point-lts.InvT-loop
+try-point-Inv-loop sections turns slots table cut out₀ t c s h p d j₀ out j =
+    (j ≤ 3) × (out ≡ out₀) × Vain (Goes sections turns c s t h p) (λ k. getD slots (3 * p + k) 0) j
+
+abbrev try-point-μ-loop : try-point-lts.MeasureT-loop
+try-point-μ-loop sections turns slots table cut out₀ t c s h p d j₀ out j = 3 - j
+
+try-point-loop-holds : (t : ℕ) → try-point-lts.Need-loop-holds (point-calls t) (try-point-at t) try-point.Post try-point-Inv-loop try-point-μ-loop
+try-point-loop-holds t c =
+    let a = c .before .before .before .args in
+    (omega arith, refl, vain-none (Goes (a .sections .now) (a .turns .now) (a .c) (a .s) (a .t) (a .h) (a .p)) (λ k. getD (a .slots .now) (3 * a .p + k) 0))
+
+try-point-slot-at-requires : (t : ℕ) → try-point-lts.Need-slot-at-requires (point-calls t) (try-point-at t) try-point.Post try-point-Inv-loop try-point-μ-loop
 try-point-slot-at-requires t c κs =
-    let start = c .before .before .before in
-    (arrived-low (start .pre .1 .0 .checked) (start .pre .1 .1), omega arith)
-
-try-point-try-section-requires : (t : ℕ) → try-point-lts.Need-try-section-requires (point-calls t) (try-point-at t) try-point.Post
-try-point-try-section-requires t c κs =
     let start = c .before .before .before .before .before in
-    (omega (arith, start .pre .0), start .pre .1)
+    (arrived-low (start .pre .1 .0 .checked) (start .pre .1 .1), omega (arith, c .loop-test .taken))
 
-try-point-same-length : (t : ℕ) → try-point-lts.Need-same-length (point-calls t) (try-point-at t) try-point.Post
-try-point-same-length t c = c .before .before .before .try-section .kept .1 .1 .1 .1 .1 .0
+try-point-try-section-requires : (t : ℕ) → try-point-lts.Need-try-section-requires (point-calls t) (try-point-at t) try-point.Post try-point-Inv-loop try-point-μ-loop
+try-point-try-section-requires t c κs =
+    let start = c .before .before .before .before .before .before .before in
+    let known = start .pre .1 in
+    (omega (arith, start .pre .0), (known .0, known .1, known .2, known .3, rw (c .before .before .before .loop .inv .1) (known .4)))
 
-try-point-returns : (t : ℕ) → try-point-lts.Need-returns (point-calls t) (try-point-at t) try-point.Post
+try-point-same-length : (t : ℕ) → try-point-lts.Need-same-length (point-calls t) (try-point-at t) try-point.Post try-point-Inv-loop try-point-μ-loop
+try-point-same-length t c =
+    let call = c .before .before .before in
+    call .try-section .kept .1 .1 .1 .1 .1 .0 ∙ ap length (call .before .before .before .before .loop .inv .1)
+
+try-point-returns : (t : ℕ) → try-point-lts.Need-returns (point-calls t) (try-point-at t) try-point.Post try-point-Inv-loop try-point-μ-loop
 try-point-returns t c =
-    let first = c .before .before .before in
-    let start = first .before .before .before .before .before .before in
-    point-first (start .pre .1 .0) (start .pre .1 .1) (start .args .c) (start .args .s) (start .args .t) (first .before .before .slot-at .ensures) (first .try-section .ensures) (c .if1 .taken)
-
-try-point-slot-at-requires-2 : (t : ℕ) → try-point-lts.Need-slot-at-requires-2 (point-calls t) (try-point-at t) try-point.Post
-try-point-slot-at-requires-2 t c κs =
-    let start = c .before .before .before .before .before .before .before .before .before in
-    (arrived-low (start .pre .1 .0 .checked) (start .pre .1 .1), omega arith)
-
-try-point-try-section-requires-2 : (t : ℕ) → try-point-lts.Need-try-section-requires-2 (point-calls t) (try-point-at t) try-point.Post
-try-point-try-section-requires-2 t c κs =
-    let first = c .before .before .before .before .before in
-    let start = first .before .before .before .before .before .before in
+    let call = c .before .before .before in
+    let loop = call .before .before .before .before .loop in
+    let start = call .before .before .before .before .before .before .before .before in
+    let a = start .args in
     let known = start .pre .1 in
-    (omega (arith, start .pre .0), (known .0, known .1, known .2, known .3, omega (arith, known .4, first .try-section .kept .1 .1 .1 .1 .1 .0)))
+    first-found (Goes (a .sections .now) (a .turns .now) (a .c) (a .s) (a .t) (a .h) (a .p)) (λ k. getD (a .slots .now) (3 * a .p + k) 0)
+    (in-slots (known .0) (known .1) (a .c) (a .s) (a .t)) (loop .inv .2) (loop .inv .1) (slots-ascend (known .0) (known .1)) (call .before .before .slot-at .ensures)
+    (call .try-section .ensures) (c .if1 .taken)
 
-try-point-same-length-2 : (t : ℕ) → try-point-lts.Need-same-length-2 (point-calls t) (try-point-at t) try-point.Post
-try-point-same-length-2 t c =
-    let second = c .before .before .before in
-    second .try-section2 .kept .1 .1 .1 .1 .1 .0 ∙ second .before .before .before .before .before .before .try-section .kept .1 .1 .1 .1 .1 .0
+try-point-add-j : (t : ℕ) → try-point-lts.Need-add-j (point-calls t) (try-point-at t) try-point.Post try-point-Inv-loop try-point-μ-loop
+try-point-add-j t c = omega (arith, c .before .before .before .before .before .before .loop-test .taken)
 
-try-point-returns-2 : (t : ℕ) → try-point-lts.Need-returns-2 (point-calls t) (try-point-at t) try-point.Post
+try-point-loop-less : (t : ℕ) → try-point-lts.Need-loop-less (point-calls t) (try-point-at t) try-point.Post try-point-Inv-loop try-point-μ-loop
+try-point-loop-less t c = omega (arith, c .before .before .before .before .before .before .loop-test .taken)
+
+try-point-loop-again : (t : ℕ) → try-point-lts.Need-loop-again (point-calls t) (try-point-at t) try-point.Post try-point-Inv-loop try-point-μ-loop
+try-point-loop-again t c =
+    let call = c .before .before .before in
+    let loop = call .before .before .before .before .loop in
+    let a = call .before .before .before .before .before .before .before .before .args in
+    let none = missed (call .try-section .ensures) (c .if1 .left) in (
+      omega (arith, call .before .before .before .loop-test .taken),
+      none .0 ∙ loop .inv .1,
+      vain-more (Goes (a .sections .now) (a .turns .now) (a .c) (a .s) (a .t) (a .h) (a .p)) (λ k. getD (a .slots .now) (3 * a .p + k) 0) (loop .inv .2)
+          (call .before .before .slot-at .ensures) (none .1),
+    )
+
+try-point-same-length-2 : (t : ℕ) → try-point-lts.Need-same-length-2 (point-calls t) (try-point-at t) try-point.Post try-point-Inv-loop try-point-μ-loop
+try-point-same-length-2 t c = ap length (c .before .loop .inv .1)
+
+try-point-returns-2 : (t : ℕ) → try-point-lts.Need-returns-2 (point-calls t) (try-point-at t) try-point.Post try-point-Inv-loop try-point-μ-loop
 try-point-returns-2 t c =
-    let second = c .before .before .before in
-    let first = second .before .before .before .before .before .before in
-    let start = first .before .before .before .before .before .before in
-    point-second (start .pre .1 .0) (start .pre .1 .1) (start .args .c) (start .args .s) (start .args .t) (first .before .before .slot-at .ensures) (second .before .before .slot-at2 .ensures)
-    (first .try-section .ensures) (second .before .before .before .if1 .left) (second .try-section2 .ensures) (c .if2 .taken)
-
-try-point-slot-at-requires-3 : (t : ℕ) → try-point-lts.Need-slot-at-requires-3 (point-calls t) (try-point-at t) try-point.Post
-try-point-slot-at-requires-3 t c κs =
-    let start = c .before .before .before .before .before .before .before .before .before .before .before .before .before .before .before in
-    (arrived-low (start .pre .1 .0 .checked) (start .pre .1 .1), omega arith)
-
-try-point-try-section-requires-3 : (t : ℕ) → try-point-lts.Need-try-section-requires-3 (point-calls t) (try-point-at t) try-point.Post
-try-point-try-section-requires-3 t c κs =
-    let second = c .before .before .before .before .before in
-    let first = second .before .before .before .before .before .before in
-    let start = first .before .before .before .before .before .before in
+    let loop = c .before .loop in
+    let start = c .before .before .before .before .before in
+    let a = start .args in
     let known = start .pre .1 in
-    (omega (arith, start .pre .0), (known .0, known .1, known .2, known .3, omega (arith, known .4, first .try-section .kept .1 .1 .1 .1 .1 .0, second .try-section2 .kept .1 .1 .1 .1 .1 .0)))
-
-try-point-same-length-3 : (t : ℕ) → try-point-lts.Need-same-length-3 (point-calls t) (try-point-at t) try-point.Post
-try-point-same-length-3 t c =
-    let third = c .before .before in
-    let second = third .before .before .before .before .before .before in
-    third .try-section3 .kept .1 .1 .1 .1 .1 .0 ∙ second .try-section2 .kept .1 .1 .1 .1 .1 .0 ∙ second .before .before .before .before .before .before .try-section .kept .1 .1 .1 .1 .1 .0
-
-try-point-returns-3 : (t : ℕ) → try-point-lts.Need-returns-3 (point-calls t) (try-point-at t) try-point.Post
-try-point-returns-3 t c =
-    let third = c .before .before in
-    let second = third .before .before .before .before .before .before in
-    let first = second .before .before .before .before .before .before in
-    let start = first .before .before .before .before .before .before in
-    point-third (start .pre .1 .0) (start .pre .1 .1) (start .args .c) (start .args .s) (start .args .t) (first .before .before .slot-at .ensures) (second .before .before .slot-at2 .ensures) (third .before .before .slot-at3 .ensures)
-    (first .try-section .ensures) (second .before .before .before .if1 .left) (second .try-section2 .ensures) (third .before .before .before .if2 .left)
-    (third .try-section3 .ensures)
+    all-vain (Goes (a .sections .now) (a .turns .now) (a .c) (a .s) (a .t) (a .h) (a .p)) (λ k. getD (a .slots .now) (3 * a .p + k) 0)
+    (in-slots (known .0) (known .1) (a .c) (a .s) (a .t)) (loop .inv .2) (loop .inv .1) (omega (arith, c .loop-test .left))
 
 try-section-look-ahead-requires : (t : ℕ) → try-section-lts.Need-look-ahead-requires (section-calls t) (try-section-at t) try-section.Post
 try-section-look-ahead-requires t c κs =
@@ -212,18 +208,18 @@ pub +try-point+try-section-spec : {M : Type 1} → statement M
 +try-point+try-section-spec = close μ-try-point μ-try-section (λ t. try-point-lts.spec (point-calls t)
     (try-point-at t)
     try-point.Post
+    try-point-Inv-loop
+    try-point-μ-loop
+    (try-point-loop-holds t)
     (try-point-slot-at-requires t)
     (try-point-try-section-requires t)
     (try-point-same-length t)
     (try-point-returns t)
-    (try-point-slot-at-requires-2 t)
-    (try-point-try-section-requires-2 t)
+    (try-point-add-j t)
+    (try-point-loop-less t)
+    (try-point-loop-again t)
     (try-point-same-length-2 t)
-    (try-point-returns-2 t)
-    (try-point-slot-at-requires-3 t)
-    (try-point-try-section-requires-3 t)
-    (try-point-same-length-3 t)
-    (try-point-returns-3 t))
+    (try-point-returns-2 t))
     λ t. try-section-lts.spec (section-calls t)
     (try-section-at t)
     try-section.Post
