@@ -17,7 +17,7 @@ Whole ws = length ws ≡ 24
 abbrev pub bit : ℕ → ℕ → ℕ
 bit w b = w / 2 ^ b % 2
 
--- the point k is in the set: of its word, the one in which the points from 32 (k / 32) on are kept, its bit is put
+-- the point k is in the set: bit k % 32 of word k / 32 is put
 unfoldable pub member : List ℕ → ℕ → Bool
 member ws k = eqb (bit (getD ws (k / 32) 0) (k % 32)) 1
 
