@@ -38,7 +38,7 @@ fn try_point(
     requires { ⌜ Tables (now sections) (now turns) (now slots) (now table) × Arrived (now sections) h p × Bounded (now sections) (now turns) (now cut) c s t h p × Covers t × (d + unmarked t < length (now out)) ⌝ }
     ensures { λ r. ⌜ Tried (Goes (now (sections .entry)) (now (turns .entry)) c s t h p) (now (out .entry)) d r (now (out .exit)) ⌝ }
 {
-    let mut j = 0;
+    let mut j: u32 = 0;
     while j < 3 {
         let e = slot_at(slots, p, j);
         let found = try_section(sections, turns, slots, table, cut, out, t, c, s, h, p, e, d);
