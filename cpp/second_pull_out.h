@@ -261,14 +261,19 @@ inline bool reaches_L(const Yard &yard, const Turning &turning, const List &list
     return clauses.back().holds(yard, turning, list);
 }
 
-// The smallest pull-out from lists that grow section by section, as far as no clause is broken for good.
+inline bool any_list(const Yard &, const Turning &, const List &) { return true; }
+
+// The smallest pull-out from lists that grow section by section, as far as no clause is broken for good. Lists can be given up
+// for a reason that the document does not know, which makes a wrong finder.
 inline std::optional<List> grown_pull_out(const Yard &yard, const Turning &turning,
-                                          const std::set<size_t> &left_out = {}) {
+                                          const std::set<size_t> &left_out = {},
+                                          bool (*kept)(const Yard &, const Turning &, const List &) = any_list) {
     std::optional<List> first;
     std::vector<List> longest{{}};
     for (size_t length = 0; length < yard.sections.size() && !longest.empty(); length++) {
         std::vector<List> longer;
         for (const List &list : longest) std::ranges::move(grown(yard, turning, list, left_out), back_inserter(longer));
+        std::erase_if(longer, [&](const List &list) { return !kept(yard, turning, list); });
         for (const List &list : longer)
             if (reaches_L(yard, turning, list) && (!first || list < *first)) first = list;
         longest = std::move(longer);

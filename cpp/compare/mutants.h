@@ -49,6 +49,8 @@ inline const std::vector<Mutant> &mutants() {
         {"pull-out: bends onto s", pull_out_finder<pull_out_without<second::none_is_s>>()},
         {"pull-out: over c", pull_out_finder<pull_out_without<none_is_c>>()},
         {"pull-out: passes a point twice", pull_out_finder<pull_out_without<none_twice, points_differ>>()},
+        {"pull-out: points 16 apart have one mark", pull_out_finder<two_points_one_mark<16>>()},
+        {"pull-out: points 32 apart have one mark", pull_out_finder<two_points_one_mark<32>>()},
         {"pull-out: over a section twice", pull_out_finder<pull_out_without<none_twice>>()},
         {"pull-out: through occupied sections", pull_out_finder<pull_out_without<but_the_last_free>>()},
         {"pull-out: over forbidden turns", pull_out_finder<pull_out_without<no_forbidden_turn>>()},

@@ -28,6 +28,20 @@ template <size_t... clause> Answer pull_out_without(const AskedPullOut &asked) {
     });
 }
 
+// Points whose numbers differ in one bit alone have one mark between them, so that no list passes both.
+template <uint64_t bit>
+bool passes_one(const second::Yard &yard, const second::Turning &turning, const second::List &list) {
+    auto marks = second::entries(yard, turning.p, list);
+    for (uint64_t &mark : marks) mark &= ~bit;
+    return second::all_differ(marks);
+}
+
+template <uint64_t bit> Answer two_points_one_mark(const AskedPullOut &asked) {
+    return answered(asked, [](const second::Yard &yard, const second::Turning &turning) {
+        return second::grown_pull_out(yard, turning, {}, passes_one<bit>);
+    });
+}
+
 // At each point the lowest section that may be entered is taken, and no other is tried where that leads to nothing.
 inline std::optional<second::List> first_try(const second::Yard &yard, const second::Turning &turning) {
     second::List list;

@@ -1,7 +1,7 @@
 -- A try that goes on over a section: what it then looks for, and what is known of it.
 -- Assumes nothing.
 use mathlib.Core.Path.{_≡_, refl, sym, _∙_}
-use mathlib.Core.Logic.{⊎-elim}
+use mathlib.Core.Logic.{_≢_, ⊎-elim}
 use mathlib.Core.Bool.{Bool}
 use mathlib.Core.List.{List, _∷_}
 use Prim.Native.Nat.{ℕ, _+_, _*_, _≤_, _<_}
@@ -19,7 +19,8 @@ use Rattle.bounds.proofs.ThreeSlots.{in-slot, ascending}
 use Rattle.pullout.specs.declared.marks.Try.{Try}
 use Rattle.pullout.specs.Marks.{marked, Past}
 use Rattle.pullout.specs.Looked.{Goes, GoesOn, Bounded}
-use Rattle.pullout.specs.Tried.{Heads}
+use Rattle.pullout.specs.Tried.{Heads, Over, Tried}
+use Rattle.pullout.proofs.Trying.{Vain, all-vain, first-found}
 
 module _ {ss ts : List ℕ} {c s : ℕ} {t : Try} {h p e q n : ℕ} (g : GoesOn ss ts c s t h p e q n) where
   pub on-low : Passes ss ts → q < 768
@@ -59,26 +60,36 @@ module _ {ss ts : List ℕ} {c s : ℕ} {t : Try} {h p e q n : ℕ} (g : GoesOn 
         (held-on (passed-joined ok) (b .right) (a .inside) (a .touch) (b .held) (g .enters) (g .free) shorter (rw (g .far) at (g .new))) in
         record { right = b .right; held = held-marks more u }
 
--- the sections at the point p: what stands in its slots
+-- what stands in slot k of the point p
+abbrev slot : List ℕ → ℕ → ℕ → ℕ
+slot slots p k = getD slots (3 * p + k) 0
+
+-- no list that the try looks for begins with what stands in one of the first j slots of p
+abbrev pub InVain : List ℕ → List ℕ → List ℕ → ℕ → ℕ → Try → ℕ → ℕ → ℕ → Type 0
+InVain ss ts slots c s t h p j = Vain (Goes ss ts c s t h p) (slot slots p) j
+
 module _ {ss ts slots table : List ℕ} (tables : Tables ss ts slots table) {h p : ℕ} (a : Arrived ss h p) where
-  abbrev slot : ℕ → ℕ
-  slot k = getD slots (3 * p + k) 0
+  ascend : (j k : ℕ) → j < k → k < 3 → slot slots p j ≤ slot slots p k
+  ascend j k l m = let ok = tables .checked in ascending (passed-joined ok) (passed-three ok) (tables .slotted) p j k (arrived-low ok a) l m
 
-  pub slots-ascend : (j k : ℕ) → j < k → k < 3 → slot j ≤ slot k
-  slots-ascend j k l m =
-      let ok = tables .checked in
-      ascending (passed-joined ok) (passed-three ok) (tables .slotted) p j k (arrived-low ok a) l m
+  module _ (c s : ℕ) (t : Try) where
+    in-slots : (qs : List ℕ) → Goes ss ts c s t h p qs → (k : ℕ) × (k < 3) × Heads (slot slots p k) qs
+    in-slots qs w = go qs w
+      where
+        at : (q : ℕ) → Enters ss ts c s h p q → (k : ℕ) × (k < 3) × (q ≡ slot slots p k)
+        at q f =
+            let ok = tables .checked in
+            ⊎-elim (λ e. (0, omega arith, e)) (⊎-elim (λ e. (1, omega arith, e)) (λ e. (2, omega arith, e)))
+            (in-slot (passed-joined ok) (passed-three ok) (tables .slotted) q p (f .inside) (f .touch))
 
-  -- what a try looks for begins with one of them
-  pub in-slots : (c s : ℕ) (t : Try) (qs : List ℕ) → Goes ss ts c s t h p qs → (k : ℕ) × (k < 3) × Heads (slot k) qs
-  in-slots c s t qs w = go qs w
-    where
-      at : (q : ℕ) → Enters ss ts c s h p q → (k : ℕ) × (k < 3) × (q ≡ slot k)
-      at q f =
-          let ok = tables .checked in
-          ⊎-elim (λ e. (0, omega arith, e)) (⊎-elim (λ e. (1, omega arith, e)) (λ e. (2, omega arith, e)))
-          (in-slot (passed-joined ok) (passed-three ok) (tables .slotted) q p (f .inside) (f .touch))
+        go : (qs : List ℕ) → Goes ss ts c s t h p qs → (k : ℕ) × (k < 3) × Heads (slot slots p k) qs
+        go qs (last {q} f e) = at q f
+        go qs (next {q} f e l m v) = at q f
 
-      go : (qs : List ℕ) → Goes ss ts c s t h p qs → (k : ℕ) × (k < 3) × Heads (slot k) qs
-      go qs (last {q} f e) = at q f
-      go qs (next {q} f e l m v) = at q f
+    -- so the tries of its three sections, in their order, make the try of the point
+    pub point-found : {j e d n : ℕ} {b o r : List ℕ} → InVain ss ts slots c s t h p j → o ≡ b → e ≡ slot slots p j
+        → Tried (Over (Goes ss ts c s t h p) e) o d n r → n ≢ 0 → Tried (Goes ss ts c s t h p) b d n r
+    point-found v same = first-found (Goes ss ts c s t h p) (slot slots p) in-slots v same ascend
+
+    pub point-vain : {j d : ℕ} {b o : List ℕ} → InVain ss ts slots c s t h p j → o ≡ b → 3 ≤ j → Tried (Goes ss ts c s t h p) b d 0 o
+    point-vain v same = all-vain (Goes ss ts c s t h p) (slot slots p) in-slots v same

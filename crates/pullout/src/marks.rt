@@ -1,5 +1,5 @@
-// One try for a pull-out: the marks of the points passed, and the length that is left. No other function sees how the marks
-// are kept.
+// One try for a pull-out: the marks of the points passed, a set of points, and the length that is left. No other function sees
+// the marks.
 ghost use mathlib.Core.Path.{_≡_};
 ghost use mathlib.Core.Bool.{not};
 ghost use Prim.Native.Nat.{_≤_, _<_};

@@ -1,18 +1,18 @@
 -- `search::try_point` and `search::try_section` meet their contracts. The measure of a section's try is twice the number of
 -- unmarked points, that of a point's try one more: a point tries its sections with the same marks, a section tries its far point
--- with one mark more.
+-- with one mark more. In the loop of a point's try the list is as it was, and the sections before were tried in vain.
 -- Assumes nothing.
 use mathlib.Core.Path.{_≡_, refl, ap, _∙_}
 use native.Mathlib.Omega.{arith}
-use lib.ListN.{length, getD, length-set}
+use lib.ListN.{length, length-set}
 use Rattle.rules.proofs.Ways.{last as by-itself}
 use Rattle.bounds.proofs.Entering.{arrived-low}
 use Rattle.pullout.specs.Marks.{unmarked}
 use Rattle.pullout.specs.Looked.{Goes}
 use Rattle.pullout.proofs.Looking.{on-fits}
-use Rattle.pullout.proofs.Going.{on-low, on-arrived, from-there, to-there, on-bounded, slots-ascend, in-slots}
-use Rattle.pullout.proofs.Trying.{over-none, over-last, over-missed, over-found, missed, Vain, vain-none, vain-more, all-vain, first-found}
-use Prim.Native.Nat.{ℕ, _+_, _-_, _*_, _≤_, _<_}
+use Rattle.pullout.proofs.Going.{on-low, on-arrived, from-there, to-there, on-bounded, InVain, point-found, point-vain}
+use Rattle.pullout.proofs.Trying.{over-none, over-last, over-missed, over-found, missed, vain-none, vain-more}
+use Prim.Native.Nat.{ℕ, _+_, _-_, _≤_, _<_}
 use borrow.Fn.Kinds.{In}
 use borrow.Fn.PlainCycle.{Measures, is, falls, and}
 use Rattle.pullout.proofs.search.try_point.Reads as try-point
@@ -56,15 +56,13 @@ section-calls t = (look-ahead-reads.Asked, look-ahead-reads.Learnt, go-past-read
 
 abbrev try-point-Inv-loop : try-point-lts.InvT-loop
 try-point-Inv-loop sections turns slots table cut out₀ t c s h p d j₀ out j =
-    (j ≤ 3) × (out ≡ out₀) × Vain (Goes sections turns c s t h p) (λ k. getD slots (3 * p + k) 0) j
+    (j ≤ 3) × (out ≡ out₀) × InVain sections turns slots c s t h p j
 
 abbrev try-point-μ-loop : try-point-lts.MeasureT-loop
 try-point-μ-loop sections turns slots table cut out₀ t c s h p d j₀ out j = 3 - j
 
 try-point-loop-holds : (t : ℕ) → try-point-lts.Need-loop-holds (point-calls t) (try-point-at t) try-point.Post try-point-Inv-loop try-point-μ-loop
-try-point-loop-holds t c =
-    let a = c .before .before .before .args in
-    (omega arith, refl, vain-none (Goes (a .sections .now) (a .turns .now) (a .c) (a .s) (a .t) (a .h) (a .p)) (λ k. getD (a .slots .now) (3 * a .p + k) 0))
+try-point-loop-holds t c = (omega arith, refl, vain-none _ _)
 
 try-point-slot-at-requires : (t : ℕ) → try-point-lts.Need-slot-at-requires (point-calls t) (try-point-at t) try-point.Post try-point-Inv-loop try-point-μ-loop
 try-point-slot-at-requires t c κs =
@@ -87,10 +85,7 @@ try-point-returns t c =
     let call = c .before .before .before in
     let loop = call .before .before .before .before .loop in
     let start = call .before .before .before .before .before .before .before .before in
-    let a = start .args in
-    let known = start .pre .1 in
-    first-found (Goes (a .sections .now) (a .turns .now) (a .c) (a .s) (a .t) (a .h) (a .p)) (λ k. getD (a .slots .now) (3 * a .p + k) 0)
-    (in-slots (known .0) (known .1) (a .c) (a .s) (a .t)) (loop .inv .2) (loop .inv .1) (slots-ascend (known .0) (known .1)) (call .before .before .slot-at .ensures)
+    point-found (start .pre .1 .0) (start .pre .1 .1) (start .args .c) (start .args .s) (start .args .t) (loop .inv .2) (loop .inv .1) (call .before .before .slot-at .ensures)
     (call .try-section .ensures) (c .if1 .taken)
 
 try-point-add-j : (t : ℕ) → try-point-lts.Need-add-j (point-calls t) (try-point-at t) try-point.Post try-point-Inv-loop try-point-μ-loop
@@ -103,13 +98,8 @@ try-point-loop-again : (t : ℕ) → try-point-lts.Need-loop-again (point-calls 
 try-point-loop-again t c =
     let call = c .before .before .before in
     let loop = call .before .before .before .before .loop in
-    let a = call .before .before .before .before .before .before .before .before .args in
-    let none = missed (call .try-section .ensures) (c .if1 .left) in (
-      omega (arith, call .before .before .before .loop-test .taken),
-      none .0 ∙ loop .inv .1,
-      vain-more (Goes (a .sections .now) (a .turns .now) (a .c) (a .s) (a .t) (a .h) (a .p)) (λ k. getD (a .slots .now) (3 * a .p + k) 0) (loop .inv .2)
-          (call .before .before .slot-at .ensures) (none .1),
-    )
+    let none = missed (call .try-section .ensures) (c .if1 .left) in
+    (omega (arith, call .before .before .before .loop-test .taken), none .0 ∙ loop .inv .1, vain-more _ _ (loop .inv .2) (call .before .before .slot-at .ensures) (none .1))
 
 try-point-same-length-2 : (t : ℕ) → try-point-lts.Need-same-length-2 (point-calls t) (try-point-at t) try-point.Post try-point-Inv-loop try-point-μ-loop
 try-point-same-length-2 t c = ap length (c .before .loop .inv .1)
@@ -118,10 +108,7 @@ try-point-returns-2 : (t : ℕ) → try-point-lts.Need-returns-2 (point-calls t)
 try-point-returns-2 t c =
     let loop = c .before .loop in
     let start = c .before .before .before .before .before in
-    let a = start .args in
-    let known = start .pre .1 in
-    all-vain (Goes (a .sections .now) (a .turns .now) (a .c) (a .s) (a .t) (a .h) (a .p)) (λ k. getD (a .slots .now) (3 * a .p + k) 0)
-    (in-slots (known .0) (known .1) (a .c) (a .s) (a .t)) (loop .inv .2) (loop .inv .1) (omega (arith, c .loop-test .left))
+    point-vain (start .pre .1 .0) (start .pre .1 .1) (start .args .c) (start .args .s) (start .args .t) (loop .inv .2) (loop .inv .1) (omega (arith, c .loop-test .left))
 
 try-section-look-ahead-requires : (t : ℕ) → try-section-lts.Need-look-ahead-requires (section-calls t) (try-section-at t) try-section.Post
 try-section-look-ahead-requires t c κs =
