@@ -1,6 +1,6 @@
 // What a call takes of the stack: each runs in a thread on a painted stack, and the paint that is gone is counted. The
 // arrays of a call have the size of the largest plan whatever the plan, so what counts is how deep the search for a
-// pull-out goes. Ends with status 1 where an answer is not the one expected, or a call takes 4 MB or more.
+// pull-out goes. Ends with status 1 where an answer is not the one expected, or a call takes more than FINDER_STACK_MOST.
 #include "../cpp/plan.h"
 #include "finder.h"
 #include <algorithm>
@@ -12,7 +12,7 @@
 
 namespace {
 
-constexpr size_t stack_size = 64 << 20, allowed = 4 << 20;
+constexpr size_t stack_size = 64 << 20;
 constexpr unsigned char paint = 0xA5;
 
 void *run(void *call) {
@@ -121,7 +121,7 @@ int main() {
     std::puts("| Call | Sections of the pull-out | Stack, bytes |\n|---|---|---|");
     for (const Row &row : rows()) {
         std::printf("| %s | %u | %zu |%s\n", row.call, row.sections, row.bytes, row.expected ? "" : " not as expected");
-        good = good && row.expected && row.bytes < allowed;
+        good = good && row.expected && row.bytes <= FINDER_STACK_MOST;
     }
     return good ? 0 : 1;
 }

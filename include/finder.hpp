@@ -24,6 +24,8 @@ inline constexpr std::uint32_t length_most = FINDER_LENGTH_MOST;
 inline constexpr std::uint32_t train_most = FINDER_TRAIN_MOST;
 // The label of an arrival from which no walk leads on.
 inline constexpr std::uint32_t none = FINDER_NONE;
+// No call takes more bytes of stack.
+inline constexpr std::size_t stack_most = FINDER_STACK_MOST;
 
 // How many entries tables have and buffers need. Called without an argument: for the largest plan, the largest file.
 constexpr std::size_t sections_size(std::size_t sections = sections_most) noexcept {
