@@ -1,3 +1,4 @@
 -- Laws that the functions' proofs cite.
 pub mod Bits
 pub mod Members
+pub mod Unique
