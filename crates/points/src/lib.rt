@@ -8,24 +8,24 @@ use plan::read::wide;
 pub fn no_points() -> [u32; 24]
     ensures { λ r. ⌜ Empty r ⌝ }
 {
-    let set = [0; 24];
-    set
+    let words = [0; 24];
+    words
 }
 
 // The point p is in the set.
-pub fn has(set: &[u32; 24], p: u32) -> bool
+pub fn has(words: &[u32; 24], p: u32) -> bool
     requires { ⌜ p < 768 ⌝ }
-    ensures { λ r. ⌜ r ≡ member (now (set .entry)) p ⌝ }
+    ensures { λ r. ⌜ r ≡ member (now (words .entry)) p ⌝ }
 {
-    let word = set[wide(p >> 5)];
+    let word = words[wide(p >> 5)];
     (word >> (p & 31)) & 1 == 1
 }
 
 // Puts the point p into the set.
-pub fn put(set: &mut [u32; 24], p: u32)
-    requires { ⌜ Whole (now set) × (p < 768) ⌝ }
-    ensures { λ _. ⌜ Put (now (set .entry)) p (now (set .exit)) ⌝ }
+pub fn put(words: &mut [u32; 24], p: u32)
+    requires { ⌜ Whole (now words) × (p < 768) ⌝ }
+    ensures { λ _. ⌜ Put (now (words .entry)) p (now (words .exit)) ⌝ }
 {
     let at = wide(p >> 5);
-    set[at] = set[at] | (1 << (p & 31));
+    words[at] = words[at] | (1 << (p & 31));
 }

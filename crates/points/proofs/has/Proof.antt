@@ -20,7 +20,7 @@ shr-result : tie.Need-shr-result
 shr-result c = mask-low (c .before .before .args .p) _ (omega arith)
 
 returns : tie.Need-returns
-returns c = let a = c .before .before .args in read (a .set .now) (a .p) (c .before .wide .ensures .0)
+returns c = let a = c .before .before .args in read (a .words .now) (a .p) (c .before .wide .ensures .0)
 
 pub has-spec : {M : Type 1} → statement M
 has-spec = tie.close (tie.spec wide-requires mul-word element-copy-out-word shr-result returns)

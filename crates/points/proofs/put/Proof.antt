@@ -11,20 +11,20 @@ use Rattle.points.proofs.put.Tie as tie
 wide-requires : tie.Need-wide-requires
 wide-requires c κs = search needs
 
-mul-set : tie.Need-mul-set
-mul-set c = search needs
+mul-words : tie.Need-mul-words
+mul-words c = search needs
 
-element-copy-out-set : tie.Need-element-copy-out-set
-element-copy-out-set c = search needs
+element-copy-out-words : tie.Need-element-copy-out-words
+element-copy-out-words c = search needs
 
-shl-set : tie.Need-shl-set
-shl-set c = mask-low (c .before .before .args .p) _ (omega arith)
+shl-words : tie.Need-shl-words
+shl-words c = mask-low (c .before .before .args .p) _ (omega arith)
 
-mul-set-2 : tie.Need-mul-set-2
-mul-set-2 c = search needs
+mul-words-2 : tie.Need-mul-words-2
+mul-words-2 c = search needs
 
-element-write-set : tie.Need-element-write-set
-element-write-set c = search needs
+element-write-words : tie.Need-element-write-words
+element-write-words c = search needs
 
 returns : tie.Need-returns
 returns c = let given = c .before .before .pre in written (given .0) (given .1) (c .before .wide .ensures .0) refl
@@ -34,9 +34,9 @@ put-spec =
     tie.close
     (tie.spec
     wide-requires
-    mul-set
-    element-copy-out-set
-    shl-set
-    mul-set-2
-    element-write-set
+    mul-words
+    element-copy-out-words
+    shl-words
+    mul-words-2
+    element-write-words
     returns)
