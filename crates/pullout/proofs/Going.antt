@@ -1,7 +1,8 @@
 -- A try that goes on over a section: what it then looks for, and what is known of it.
 -- Assumes nothing.
-use mathlib.Core.Path.{_≡_}
-use mathlib.Core.Logic.{_≢_, ⊎-elim}
+use mathlib.Core.Path.{_≡_, refl, sym, _∙_}
+use mathlib.Core.Logic.{_≢_, _⊎_, ⊎-elim, inl, inr}
+use mathlib.Core.Bool.{Bool}
 use mathlib.Core.List.{List, _∷_}
 use Prim.Native.Nat.{ℕ, _+_, _*_, _≤_, _<_}
 use native.Mathlib.Omega.{arith}
@@ -67,28 +68,37 @@ slot slots p k = getD slots (3 * p + k) 0
 abbrev pub InVain : List ℕ → List ℕ → List ℕ → ℕ → ℕ → Try → ℕ → ℕ → ℕ → Type 0
 InVain ss ts slots c s t h p j = Vain (Goes ss ts c s t h p) (slot slots p) j
 
+-- a way from p begins with one of the sections in p's slots
+pub in-slots : {ss ts slots table : List ℕ} → Tables ss ts slots table → (c s : ℕ) {n h p x y z : ℕ} {marks : ℕ → Bool} → x ≡ getD slots (3 * p + 0) 0
+    → y ≡ getD slots (3 * p + 1) 0 → z ≡ getD slots (3 * p + 2) 0 → (qs : List ℕ) → Way (plan-of 0 ss ts) (may-use any-section c s) n h p marks qs
+    → Heads x qs ⊎ (Heads y qs ⊎ Heads z qs)
+in-slots {ss} {ts} tables c s {n} {h} {p} {x} {y} {z} {marks} i j k qs w = go qs w
+  where
+    at : (q : ℕ) → Enters ss ts c s h p q → (q ≡ x) ⊎ ((q ≡ y) ⊎ (q ≡ z))
+    at q f =
+        let ok = tables .checked in
+        ⊎-elim (λ e. inl (e ∙ sym i)) (⊎-elim (λ e. inr (inl (e ∙ sym j))) (λ e. inr (inr (e ∙ sym k))))
+        (in-slot (passed-joined ok) (passed-three ok) (tables .slotted) q p (f .inside) (f .touch))
+
+    go : (qs : List ℕ) → Way (plan-of 0 ss ts) (may-use any-section c s) n h p marks qs → Heads x qs ⊎ (Heads y qs ⊎ Heads z qs)
+    go qs (last {q} f e) = at q f
+    go qs (next {q} f e l m v) = at q f
+
 module _ {ss ts slots table : List ℕ} (tables : Tables ss ts slots table) {h p : ℕ} (a : Arrived ss h p) where
-  ascend : (j k : ℕ) → j < k → k < 3 → slot slots p j ≤ slot slots p k
-  ascend j k l m = let ok = tables .checked in ascending (passed-joined ok) (passed-three ok) (tables .slotted) p j k (arrived-low ok a) l m
+  pub slots-ascend : (j k : ℕ) {x y : ℕ} → j < k → k < 3 → x ≡ getD slots (3 * p + j) 0 → y ≡ getD slots (3 * p + k) 0 → x ≤ y
+  slots-ascend j k l m e f =
+      let ok = tables .checked in
+      omega (arith, ascending (passed-joined ok) (passed-three ok) (tables .slotted) p j k (arrived-low ok a) l m)
 
+  -- so the tries of its three sections, in their order, make the try of the point
   module _ (c s : ℕ) (t : Try) where
-    in-slots : (qs : List ℕ) → Goes ss ts c s t h p qs → (k : ℕ) × (k < 3) × Heads (slot slots p k) qs
-    in-slots qs w = go qs w
-      where
-        at : (q : ℕ) → Enters ss ts c s h p q → (k : ℕ) × (k < 3) × (q ≡ slot slots p k)
-        at q f =
-            let ok = tables .checked in
-            ⊎-elim (λ e. (0, omega arith, e)) (⊎-elim (λ e. (1, omega arith, e)) (λ e. (2, omega arith, e)))
-            (in-slot (passed-joined ok) (passed-three ok) (tables .slotted) q p (f .inside) (f .touch))
+    begins : (qs : List ℕ) → Goes ss ts c s t h p qs → (k : ℕ) × (k < 3) × Heads (slot slots p k) qs
+    begins qs w =
+        ⊎-elim (λ u. (0, omega arith, u)) (⊎-elim (λ u. (1, omega arith, u)) (λ u. (2, omega arith, u))) (in-slots tables c s refl refl refl qs w)
 
-        go : (qs : List ℕ) → Goes ss ts c s t h p qs → (k : ℕ) × (k < 3) × Heads (slot slots p k) qs
-        go qs (last {q} f e) = at q f
-        go qs (next {q} f e l m v) = at q f
-
-    -- so the tries of its three sections, in their order, make the try of the point
     pub point-found : {j e d n : ℕ} {b o r : List ℕ} → InVain ss ts slots c s t h p j → o ≡ b → e ≡ slot slots p j
         → Tried (Over (Goes ss ts c s t h p) e) o d n r → n ≢ 0 → Tried (Goes ss ts c s t h p) b d n r
-    point-found v same = first-found (Goes ss ts c s t h p) (slot slots p) in-slots v same ascend
+    point-found v same = first-found (Goes ss ts c s t h p) (slot slots p) begins v same (λ j k l m. slots-ascend j k l m refl refl)
 
     pub point-vain : {j d : ℕ} {b o : List ℕ} → InVain ss ts slots c s t h p j → o ≡ b → 3 ≤ j → Tried (Goes ss ts c s t h p) b d 0 o
-    point-vain v same = all-vain (Goes ss ts c s t h p) (slot slots p) in-slots v same
+    point-vain v same = all-vain (Goes ss ts c s t h p) (slot slots p) begins v same
