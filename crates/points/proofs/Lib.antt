@@ -1,4 +1,6 @@
 -- Laws that the functions' proofs cite.
 pub mod Bits
+pub mod Keeping
 pub mod Members
+pub mod Storing
 pub mod Unique

@@ -1,7 +1,8 @@
 // Sets of points: one bit for each of the 768 points, in 24 words of 32. What other crates know of a set is its members.
 ghost use mathlib.Core.Path.{_≡_};
-ghost use Prim.Native.Nat.{_<_};
-ghost use Rattle.points.specs.Points.{Whole, member, Empty, Put};
+ghost use Prim.Native.Nat.{_+_, _≤_, _<_};
+ghost use lib.ListN.{length};
+ghost use Rattle.points.specs.Points.{Whole, member, Empty, Put, Loaded, Saved};
 use plan::read::wide;
 
 // The set without a point.
@@ -28,4 +29,28 @@ pub fn put(words: &mut [u32; 24], p: u32)
 {
     let at = wide(p >> 5);
     words[at] = words[at] | (1 << (p & 31));
+}
+
+// Puts the points of the set that n words of a table keep, from this place on, into a set without a point.
+pub fn load(words: &mut [u32; 24], table: &[u32], at: usize, n: usize)
+    requires { ⌜ Empty (now words) × (n ≤ 24) × (at + n ≤ length (now table)) ⌝ }
+    ensures { λ _. ⌜ Loaded (now (table .entry)) at n (now (words .exit)) ⌝ }
+{
+    let mut i = 0;
+    while i < n {
+        words[i] = table[at + i];
+        i += 1;
+    }
+}
+
+// Keeps the first n words of the set in a table, from this place on.
+pub fn save(words: &[u32; 24], table: &mut [u32], at: usize, n: usize)
+    requires { ⌜ (n ≤ 24) × (at + n ≤ length (now table)) ⌝ }
+    ensures { λ _. ⌜ Saved (now (words .entry)) (now (table .entry)) at n (now (table .exit)) ⌝ }
+{
+    let mut i = 0;
+    while i < n {
+        table[at + i] = words[i];
+        i += 1;
+    }
 }
