@@ -2,14 +2,15 @@
 -- Assumes nothing.
 use mathlib.Core.Path.{_≡_, refl, ap, _∙_, subst}
 use mathlib.Core.Logic.{_≢_}
-use mathlib.Core.Bool.{Bool, true, false}
+use mathlib.Core.Bool.{Bool, true, false, _||_}
 use Prim.Native.Nat.{ℕ, zero, suc, _+_, _-_, _*_, _/_, _%_, _^_, _<_}
 use native.Mathlib.Omega.{arith}
 use native.Mathlib.Nat.{div-self, div-eq-of-lt, mul-mod-left, mod-lt}
 use borrow.Author.Tests.{ltb-true, ltb-false}
-use lib.Dec.{ltb}
+use lib.Dec.{T, eqb, ltb}
 use lib.Pow.{pow-pos, pow-lt, pow-add, shl-shr, shl-exact}
 use lib.Bits.{bitAnd, bitOr, and-mask, and-le-r, or-shr, or-mod, or-zero-r}
+use Rattle.rules.proofs.Tests.{T-or-left}
 use Rattle.points.specs.Points.{bit}
 
 -- a masked number is a place in a word
@@ -23,6 +24,9 @@ shifted-one p = rw (and-mask p 5) (shl-exact {a = 1} 1 (p % 32) 32 (omega arith)
 -- the bit, shifted down and cut off
 pub shifted-down : (w p : ℕ) → bitAnd (w / 2 ^ bitAnd p 31) 1 ≡ bit w (p % 32)
 shifted-down w p = rw (and-mask p 5) (and-mask (w / 2 ^ (p % 32)) 1)
+
+pub bit-low : (w b : ℕ) → bit w b < 2
+bit-low w b = mod-lt (w / 2 ^ b) (omega arith)
 
 bit-or : (x y b : ℕ) → bit (bitOr x y) b ≡ bitOr (bit x b) (bit y b)
 bit-or x y b = rw (or-shr x y b) (or-mod (x / 2 ^ b) (y / 2 ^ b) 1)
@@ -46,9 +50,27 @@ or-one zero l = refl
 or-one (suc zero) l = refl
 or-one (suc (suc x)) l = absurd (omega arith)
 
+-- one of two bits is put
+or-put : (x y : ℕ) → x < 2 → y < 2 → eqb (bitOr x y) 1 ≡ (eqb x 1 || eqb y 1)
+or-put zero zero l h = refl
+or-put zero (suc zero) l h = refl
+or-put (suc zero) zero l h = refl
+or-put (suc zero) (suc zero) l h = refl
+or-put zero (suc (suc y)) l h = absurd (omega arith)
+or-put (suc zero) (suc (suc y)) l h = absurd (omega arith)
+or-put (suc (suc x)) y l h = absurd (omega arith)
+
+-- a bit of two words together is put where it is put in one of them
+pub either-put : (x y b : ℕ) → eqb (bit (bitOr x y) b) 1 ≡ (eqb (bit x b) 1 || eqb (bit y b) 1)
+either-put x y b = rw (bit-or x y b) (or-put (bit x b) (bit y b) (bit-low x b) (bit-low y b))
+
+-- a word that adds nothing to another has no bit of its own
+pub adds-none : (x y b : ℕ) → bitOr x y ≡ y → T (eqb (bit x b) 1) → T (eqb (bit y b) 1)
+adds-none x y b e t = let h = rw e at (either-put x y b) in rw h (T-or-left (eqb (bit x b) 1) (eqb (bit y b) 1) t)
+
 -- the bit that is put, and the others
 pub put-bit : (w b : ℕ) → bit (bitOr w (2 ^ b)) b ≡ 1
-put-bit w b = bit-or w (2 ^ b) b ∙ ap (λ (x : ℕ). bitOr (bit w b) x) (power-bit b) ∙ or-one (bit w b) (mod-lt (w / 2 ^ b) (omega arith))
+put-bit w b = bit-or w (2 ^ b) b ∙ ap (λ (x : ℕ). bitOr (bit w b) x) (power-bit b) ∙ or-one (bit w b) (bit-low w b)
 
 pub put-other : (w b k : ℕ) → k ≢ b → bit (bitOr w (2 ^ b)) k ≡ bit w k
 put-other w b k n = bit-or w (2 ^ b) k ∙ ap (λ (x : ℕ). bitOr (bit w k) x) (power-other b k n) ∙ or-zero-r (bit w k)

@@ -4,13 +4,15 @@ use mathlib.Core.Path.{_≡_, refl, sym, _∙_}
 use mathlib.Core.Logic.{inr}
 use mathlib.Core.Bool.{Bool, true, false, _&&_}
 use mathlib.Core.List.{List}
-use Prim.Native.Nat.{ℕ, _+_, _/_, _%_, _≤_, _<_}
+use Prim.Native.Nat.{ℕ, suc, _+_, _/_, _%_, _≤_, _<_}
 use native.Mathlib.Omega.{arith}
 use borrow.Author.Tests.{ltb-true, ltb-false, lt-ltb, le-ltb}
-use lib.Dec.{eqb, ltb}
+use lib.Dec.{eqb, ltb, leb→le}
 use lib.ListN.{getD}
-use Rattle.rules.proofs.Tests.{gives-false}
-use Rattle.points.specs.Points.{Whole, bit, member, Empty, Narrow, kept, Loaded, Saved}
+use lib.Bits.{bitOr}
+use Rattle.rules.proofs.Tests.{gives-false, and-T}
+use Rattle.points.specs.Points.{Whole, bit, member, Empty, Among, Narrow, kept, Loaded, Saved}
+use Rattle.points.proofs.Bits.{adds-none}
 use Rattle.points.proofs.Storing.{Stored}
 
 -- whether a point is kept: its bit, where its word is one of the n, and no otherwise
@@ -48,3 +50,14 @@ loaded {table} {ws} {rs} {i} {n} {j} empty e s =
           (λ l. rw (s .done (k / 32) (k / 32) (omega arith) (omega arith)) refl)
           (λ l. rw (s .others (k / 32) (inr (omega arith))) (sym (empty .members k))));
     }
+
+-- word j that the table keeps adds nothing to that of the set
+abbrev pub AddsNone : (table ws : List ℕ) (i j : ℕ) → Type 0
+AddsNone table ws i j = bitOr (getD table (i + j) 0) (getD ws j 0) ≡ getD ws j 0
+
+pub among : (table ws : List ℕ) (i : ℕ) {n m : ℕ} → n ≤ m → ((j : ℕ) → j < m → AddsNone table ws i j) → Among (kept table i n) (member ws)
+unfolding kept member
+among table ws i {n} l none k t =
+    let h = and-T (ltb (k / 32) n) (eqb (bit (getD table (i + k / 32) 0) (k % 32)) 1) t in
+    let low = leb→le (suc (k / 32)) n (h .0) in
+    adds-none (getD table (i + k / 32) 0) (getD ws (k / 32) 0) (k % 32) (none (k / 32) (omega arith)) (h .1)

@@ -1,8 +1,9 @@
 // Sets of points: one bit for each of the 768 points, in 24 words of 32. What other crates know of a set is its members.
 ghost use mathlib.Core.Path.{_≡_};
+ghost use mathlib.Core.Bool.{true};
 ghost use Prim.Native.Nat.{_+_, _≤_, _<_};
 ghost use lib.ListN.{length};
-ghost use Rattle.points.specs.Points.{Whole, member, Empty, Put, Loaded, Saved};
+ghost use Rattle.points.specs.Points.{Whole, member, Empty, Put, Among, kept, Loaded, Saved};
 use plan::read::wide;
 
 // The set without a point.
@@ -29,6 +30,22 @@ pub fn put(words: &mut [u32; 24], p: u32)
 {
     let at = wide(p >> 5);
     words[at] = words[at] | (1 << (p & 31));
+}
+
+// Every point of the set that n words of a table keep, from this place on, is in this set.
+pub fn has_kept(words: &[u32; 24], table: &[u32], at: usize, n: usize) -> bool
+    requires { ⌜ (n ≤ 24) × (at + n ≤ length (now table)) ⌝ }
+    ensures { λ r. ⌜ (r ≡ true → Among (kept (now (table .entry)) at n) (member (now (words .entry)))) ⌝ }
+{
+    let mut i = 0;
+    while i < n {
+        let word = words[i];
+        if table[at + i] | word != word {
+            return false;
+        }
+        i += 1;
+    }
+    true
 }
 
 // Puts the points of the set that n words of a table keep, from this place on, into a set without a point.
