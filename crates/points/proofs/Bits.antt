@@ -1,4 +1,4 @@
--- One bit of a word: what `or` makes of it, and how shift and mask find it.
+-- One bit of a word: what `or` and `xor` make of it, and how shift and mask find it.
 -- Assumes nothing.
 use mathlib.Core.Path.{_≡_, refl, ap, _∙_, subst}
 use mathlib.Core.Logic.{_≢_}
@@ -9,7 +9,7 @@ use native.Mathlib.Nat.{div-self, div-eq-of-lt, mul-mod-left, mod-lt}
 use borrow.Author.Tests.{ltb-true, ltb-false}
 use lib.Dec.{T, eqb, ltb}
 use lib.Pow.{pow-pos, pow-lt, pow-add, shl-shr, shl-exact}
-use lib.Bits.{bitAnd, bitOr, and-mask, and-le-r, or-shr, or-mod, or-zero-r}
+use lib.Bits.{bitAnd, bitOr, bitXor, and-mask, and-le-r, or-shr, or-mod, or-zero-r, xor-shr, xor-mod, xor-zero-r}
 use Rattle.rules.proofs.Tests.{T-or-left}
 use Rattle.points.specs.Points.{bit}
 
@@ -30,6 +30,9 @@ bit-low w b = mod-lt (w / 2 ^ b) (omega arith)
 
 bit-or : (x y b : ℕ) → bit (bitOr x y) b ≡ bitOr (bit x b) (bit y b)
 bit-or x y b = rw (or-shr x y b) (or-mod (x / 2 ^ b) (y / 2 ^ b) 1)
+
+bit-xor : (x y b : ℕ) → bit (bitXor x y) b ≡ bitXor (bit x b) (bit y b)
+bit-xor x y b = rw (xor-shr x y b) (xor-mod (x / 2 ^ b) (y / 2 ^ b) 1)
 
 -- a power of two has one bit
 power-bit : (b : ℕ) → bit (2 ^ b) b ≡ 1
@@ -74,3 +77,15 @@ put-bit w b = bit-or w (2 ^ b) b ∙ ap (λ (x : ℕ). bitOr (bit w b) x) (power
 
 pub put-other : (w b k : ℕ) → k ≢ b → bit (bitOr w (2 ^ b)) k ≡ bit w k
 put-other w b k n = bit-or w (2 ^ b) k ∙ ap (λ (x : ℕ). bitOr (bit w k) x) (power-other b k n) ∙ or-zero-r (bit w k)
+
+-- the word without the bits of another, as the code makes it: they are put, and then turned
+abbrev pub cut : ℕ → ℕ → ℕ
+cut w x = bitXor (bitOr w x) x
+
+-- the bit that is cut, and the others
+pub cut-bit : (w b : ℕ) → bit (cut w (2 ^ b)) b ≡ 0
+cut-bit w b = rw (bit-xor (bitOr w (2 ^ b)) (2 ^ b) b, put-bit w b, power-bit b) refl
+
+pub cut-other : (w b k : ℕ) → k ≢ b → bit (cut w (2 ^ b)) k ≡ bit w k
+cut-other w b k n =
+    rw (bit-xor (bitOr w (2 ^ b)) (2 ^ b) k, power-other b k n, xor-zero-r (bit (bitOr w (2 ^ b)) k)) (put-other w b k n)

@@ -1,8 +1,8 @@
--- The members of a set: of no words but zeros, and after one bit of one word was put.
+-- The members of a set: of no words but zeros, and after one bit of one word was put or cut.
 -- Assumes nothing.
-use mathlib.Core.Path.{_≡_, refl}
+use mathlib.Core.Path.{_≡_, refl, _∙_}
 use mathlib.Core.Logic.{_≢_}
-use mathlib.Core.Bool.{true, false}
+use mathlib.Core.Bool.{Bool, true, false, not, _&&_}
 use mathlib.Core.List.{List}
 use Prim.Native.Nat.{ℕ, zero, suc, _*_, _/_, _%_, _^_, _<_}
 use native.Mathlib.Omega.{arith}
@@ -15,8 +15,8 @@ use lib.Seq.{getD-set-same, getD-set-other}
 use lib.Pow.{pow-pos}
 use lib.Bits.{bitAnd, bitOr}
 use Rattle.rules.proofs.Ways.{mark}
-use Rattle.points.specs.Points.{Whole, bit, member, Empty, Put}
-use Rattle.points.proofs.Bits.{shifted-one, shifted-down, put-bit, put-other}
+use Rattle.points.specs.Points.{Whole, bit, member, Empty, Put, Taken}
+use Rattle.points.proofs.Bits.{shifted-one, shifted-down, put-bit, put-other, cut, cut-bit, cut-other}
 
 zeros : (n i : ℕ) → _≡_ {A = ℕ} (getD (replicate n 0) i 0) 0
 zeros zero i = refl
@@ -36,37 +36,44 @@ pub read : (ws : List ℕ) (p : ℕ) {i : ℕ} → i ≡ p / 32 → eqb (bitAnd 
 unfolding member
 read ws p {i} e = rw (e, shifted-down (getD ws (p / 32) 0) p) refl
 
--- the words, with the bit of point p put
-abbrev with-bit : List ℕ → ℕ → List ℕ
-with-bit ws p = set ws (p / 32) (bitOr (getD ws (p / 32) 0) (2 ^ (p % 32)))
-
-module _ (ws : List ℕ) (p : ℕ) (l : p / 32 < length ws) where
-  member-new : member (with-bit ws p) p ≡ true
-  unfolding member
-  member-new = rw (getD-set-same ws (p / 32) (bitOr (getD ws (p / 32) 0) (2 ^ (p % 32))) 0 l, put-bit (getD ws (p / 32) 0) (p % 32)) refl
-
-  member-other : (k : ℕ) → k ≢ p → member (with-bit ws p) k ≡ member ws k
+-- the word of point p is changed to x, in no other bit than that of p
+module _ (ws : List ℕ) (p x : ℕ) (l : p / 32 < length ws) (same : (b : ℕ) → b ≢ p % 32 → bit x b ≡ bit (getD ws (p / 32) 0) b) where
+  member-other : (k : ℕ) → k ≢ p → member (set ws (p / 32) x) k ≡ member ws k
   unfolding member
   member-other k n = go (ℕ-discrete (k / 32) (p / 32))
     where
-      word : ℕ
-      word = getD ws (p / 32) 0
+      go : Dec (k / 32 ≡ p / 32) → eqb (bit (getD (set ws (p / 32) x) (k / 32) 0) (k % 32)) 1 ≡ eqb (bit (getD ws (k / 32) 0) (k % 32)) 1
+      go (yes e) = rw (e, getD-set-same ws (p / 32) x 0 l, same (k % 32) (λ r. n (omega arith))) refl
+      go (no e) = rw (getD-set-other ws (p / 32) (k / 32) x 0 e) refl
 
-      go : Dec (k / 32 ≡ p / 32) → eqb (bit (getD (with-bit ws p) (k / 32) 0) (k % 32)) 1 ≡ eqb (bit (getD ws (k / 32) 0) (k % 32)) 1
-      go (yes e) = rw (e, getD-set-same ws (p / 32) (bitOr word (2 ^ (p % 32))) 0 l, put-other word (p % 32) (k % 32) (λ r. n (omega arith))) refl
-      go (no e) = rw (getD-set-other ws (p / 32) (k / 32) (bitOr word (2 ^ (p % 32))) 0 e) refl
-
-  member-with : (k : ℕ) → member (with-bit ws p) k ≡ mark p (member ws) k
-  member-with k = go (ℕ-discrete k p)
+  member-set : (f : ℕ → Bool) → eqb (bit x (p % 32)) 1 ≡ f p → ((k : ℕ) → k ≢ p → member ws k ≡ f k) → (k : ℕ) → member (set ws (p / 32) x) k ≡ f k
+  unfolding member
+  member-set f here others k = go (ℕ-discrete k p)
     where
-      go : Dec (k ≡ p) → member (with-bit ws p) k ≡ mark p (member ws) k
-      go (yes e) = rw (eq-eqb k p e, e) member-new
-      go (no e) = rw (ne-eqb k p e) (member-other k e)
+      go : Dec (k ≡ p) → member (set ws (p / 32) x) k ≡ f k
+      go (yes e) = rw (e, getD-set-same ws (p / 32) x 0 l) here
+      go (no e) = member-other k e ∙ others k e
 
--- the word of a point, with its bit put, as the code makes it
+-- the words, with the word of point p changed by its bit as the code makes it
+module _ (change : ℕ → ℕ → ℕ) (same : (w b k : ℕ) → k ≢ b → bit (change w (2 ^ b)) k ≡ bit w k) where
+  changed : (ws : List ℕ) {rs : List ℕ} {p i : ℕ} → Whole ws → p < 768 → i ≡ p / 32 → rs ≡ set ws i (change (getD ws i 0) (1 * 2 ^ bitAnd p 31 % 4294967296))
+      → (f : ℕ → Bool) → eqb (bit (change (getD ws (p / 32) 0) (2 ^ (p % 32))) (p % 32)) 1 ≡ f p → ((k : ℕ) → k ≢ p → member ws k ≡ f k)
+      → Whole rs × ((k : ℕ) → member rs k ≡ f k)
+  unfolding Whole
+  changed ws {rs} {p} {i} z l e w f here others =
+      let word = getD ws (p / 32) 0 in
+      let r : rs ≡ set ws (p / 32) (change word (2 ^ (p % 32))) = rw (e, shifted-one p) at w in
+      (rw (r, length-set) z, λ k. rw r (member-set ws p (change word (2 ^ (p % 32))) (omega arith) (same word (p % 32)) f here others k))
+
+-- the word of a point, with its bit put, and with its bit cut
 pub written : {ws rs : List ℕ} {p i : ℕ} → Whole ws → p < 768 → i ≡ p / 32
     → rs ≡ set ws i (bitOr (getD ws i 0) (1 * 2 ^ bitAnd p 31 % 4294967296)) → Put ws p rs
-unfolding Whole
-written {ws} {rs} {p} {i} z l e w =
-    let r : rs ≡ with-bit ws p = rw (e, shifted-one p) at w in
-    record { whole = rw (r, length-set) z; members = λ k. rw r (member-with ws p (omega arith) k) }
+written {ws} {rs} {p} z l e w =
+    let h = changed bitOr put-other ws z l e w (mark p (member ws)) (rw (put-bit (getD ws (p / 32) 0) (p % 32), eq-eqb p p refl) refl) (λ k n. rw (ne-eqb k p n) refl) in
+    record { whole = h .0; members = h .1 }
+
+pub taken : {ws rs : List ℕ} {p i : ℕ} → Whole ws → p < 768 → i ≡ p / 32
+    → rs ≡ set ws i (cut (getD ws i 0) (1 * 2 ^ bitAnd p 31 % 4294967296)) → Taken ws p rs
+taken {ws} {rs} {p} z l e w =
+    let h = changed cut cut-other ws z l e w (λ k. not (eqb k p) && member ws k) (rw (cut-bit (getD ws (p / 32) 0) (p % 32), eq-eqb p p refl) refl) (λ k n. rw (ne-eqb k p n) refl) in
+    record { whole = h .0; members = h .1 }

@@ -3,7 +3,7 @@ ghost use mathlib.Core.Path.{_≡_};
 ghost use mathlib.Core.Bool.{true};
 ghost use Prim.Native.Nat.{_+_, _≤_, _<_};
 ghost use lib.ListN.{length};
-ghost use Rattle.points.specs.Points.{Whole, member, Empty, Put, Among, kept, Loaded, Saved};
+ghost use Rattle.points.specs.Points.{Whole, member, Empty, Put, Taken, Among, kept, Loaded, Saved};
 use plan::read::wide;
 
 // The set without a point.
@@ -30,6 +30,16 @@ pub fn put(words: &mut [u32; 24], p: u32)
 {
     let at = wide(p >> 5);
     words[at] = words[at] | (1 << (p & 31));
+}
+
+// Takes the point p out of the set.
+pub fn take(words: &mut [u32; 24], p: u32)
+    requires { ⌜ Whole (now words) × (p < 768) ⌝ }
+    ensures { λ _. ⌜ Taken (now (words .entry)) p (now (words .exit)) ⌝ }
+{
+    let at = wide(p >> 5);
+    let bit = 1 << (p & 31);
+    words[at] = (words[at] | bit) ^ bit;
 }
 
 // Every point of the set that n words of a table keep, from this place on, is in this set.
