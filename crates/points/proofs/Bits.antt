@@ -28,6 +28,9 @@ shifted-down w p = rw (and-mask p 5) (and-mask (w / 2 ^ (p % 32)) 1)
 pub bit-low : (w b : ℕ) → bit w b < 2
 bit-low w b = mod-lt (w / 2 ^ b) (omega arith)
 
+pub zero-bit : (b : ℕ) → bit 0 b ≡ 0
+zero-bit b = rw (div-eq-of-lt (pow-pos b)) refl
+
 bit-or : (x y b : ℕ) → bit (bitOr x y) b ≡ bitOr (bit x b) (bit y b)
 bit-or x y b = rw (or-shr x y b) (or-mod (x / 2 ^ b) (y / 2 ^ b) 1)
 

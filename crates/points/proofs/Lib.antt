@@ -4,3 +4,4 @@ pub mod Keeping
 pub mod Members
 pub mod Storing
 pub mod Unique
+pub mod Words

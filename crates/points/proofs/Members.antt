@@ -6,17 +6,15 @@ use mathlib.Core.Bool.{Bool, true, false, not, _&&_}
 use mathlib.Core.List.{List}
 use Prim.Native.Nat.{ℕ, zero, suc, _*_, _/_, _%_, _^_, _<_}
 use native.Mathlib.Omega.{arith}
-use native.Mathlib.Nat.{div-eq-of-lt}
 use native.Mathlib.Decide.{ℕ-discrete}
 use borrow.Author.Tests.{eq-eqb, ne-eqb}
 use lib.Dec.{eqb}
 use lib.ListN.{length, getD, set, replicate, length-set, length-replicate}
 use lib.Seq.{getD-set-same, getD-set-other}
-use lib.Pow.{pow-pos}
 use lib.Bits.{bitAnd, bitOr}
 use Rattle.rules.proofs.Ways.{mark}
 use Rattle.points.specs.Points.{Whole, bit, member, Empty, Put, Taken}
-use Rattle.points.proofs.Bits.{shifted-one, shifted-down, put-bit, put-other, cut, cut-bit, cut-other}
+use Rattle.points.proofs.Bits.{shifted-one, shifted-down, zero-bit, put-bit, put-other, cut, cut-bit, cut-other}
 
 zeros : (n i : ℕ) → _≡_ {A = ℕ} (getD (replicate n 0) i 0) 0
 zeros zero i = refl
@@ -25,7 +23,7 @@ zeros (suc n) (suc i) = zeros n i
 
 no-member : (n k : ℕ) → member (replicate n 0) k ≡ false
 unfolding member
-no-member n k = rw (zeros n (k / 32), div-eq-of-lt (pow-pos (k % 32))) refl
+no-member n k = rw (zeros n (k / 32), zero-bit (k % 32)) refl
 
 pub empty : Empty (replicate 24 0)
 unfolding Whole

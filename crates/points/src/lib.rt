@@ -3,7 +3,7 @@ ghost use mathlib.Core.Path.{_≡_};
 ghost use mathlib.Core.Bool.{true};
 ghost use Prim.Native.Nat.{_+_, _≤_, _<_};
 ghost use lib.ListN.{length};
-ghost use Rattle.points.specs.Points.{Whole, member, Empty, Put, Taken, Among, kept, Loaded, Saved};
+ghost use Rattle.points.specs.Points.{Whole, member, Empty, Put, Taken, Added, Narrow, Among, kept, Loaded, Saved};
 use plan::read::wide;
 
 // The set without a point.
@@ -40,6 +40,35 @@ pub fn take(words: &mut [u32; 24], p: u32)
     let at = wide(p >> 5);
     let bit = 1 << (p & 31);
     words[at] = (words[at] | bit) ^ bit;
+}
+
+// Adds the points of another set.
+pub fn add(words: &mut [u32; 24], more: &[u32; 24])
+    requires { ⌜ Whole (now words) ⌝ }
+    ensures { λ _. ⌜ Added (now (words .entry)) (now (more .entry)) (now (words .exit)) ⌝ }
+{
+    // as a slice, which brings the proof that it has 24 words
+    let more = &more[..];
+    let mut i = 0;
+    while i < 24 {
+        words[i] = words[i] | more[i];
+        i += 1;
+    }
+}
+
+// So many words, from the first on, hold all points of the set.
+pub fn width(words: &[u32; 24]) -> usize
+    ensures { λ r. ⌜ Narrow (now (words .entry)) r ⌝ }
+{
+    let words = &words[..];
+    let mut n = 24;
+    while 0 < n {
+        if words[n - 1] != 0 {
+            return n;
+        }
+        n -= 1;
+    }
+    0
 }
 
 // Every point of the set that n words of a table keep, from this place on, is in this set.
