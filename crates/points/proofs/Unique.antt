@@ -1,16 +1,18 @@
--- A set is what its members are: words of 32 bits that keep the same points are the same. So `Empty` and `Put` determine each word.
+-- A set is what its members are: words of 32 bits that keep the same points are the same. So `Empty`, `Put`, `Taken`, `Added` and
+-- `Loaded` determine each word.
 -- Assumes nothing.
 use mathlib.Core.Path.{_≡_, refl, sym, _∙_}
 use mathlib.Core.Bool.{true≢false, false≢true}
 use mathlib.Core.List.{List}
 use Prim.Native.Nat.{ℕ, zero, suc, _+_, _*_, _/_, _%_, _^_, _<_}
 use native.Mathlib.Omega.{arith}
-use native.Mathlib.Nat.{mod-lt, div-one, pow-suc}
+use native.Mathlib.Nat.{div-one, pow-suc}
 use lib.Dec.{eqb}
 use lib.ListN.{getD}
 use lib.Seq.{ext-getD}
 use lib.Pow.{shr-shr}
-use Rattle.points.specs.Points.{Whole, bit, member, Empty, Put}
+use Rattle.points.specs.Points.{Whole, bit, member, Empty, Put, Taken, Added, Loaded}
+use Rattle.points.proofs.Bits.{bit-low}
 
 -- numbers of n bits with the same bits are the same
 same-bits : (n x y : ℕ) → x < 2 ^ n → y < 2 ^ n → ((b : ℕ) → b < n → bit x b ≡ bit y b) → x ≡ y
@@ -50,7 +52,7 @@ same-members {ws} {rs} x y l h e = ext-getD 0 ws rs (x ∙ sym y) (λ i k. same-
     at i b z =
         let word : (32 * i + b) / 32 ≡ i = omega arith in
         let place : (32 * i + b) % 32 ≡ b = omega arith in
-        told (bit (getD ws i 0) b) (bit (getD rs i 0) b) (mod-lt (getD ws i 0 / 2 ^ b) (omega arith)) (mod-lt (getD rs i 0 / 2 ^ b) (omega arith))
+        told (bit (getD ws i 0) b) (bit (getD rs i 0) b) (bit-low (getD ws i 0) b) (bit-low (getD rs i 0) b)
         (rw (word, place) at (e (32 * i + b)))
 
 pub empty-unique : {ws rs : List ℕ} → InWords ws → InWords rs → Empty ws → Empty rs → ws ≡ rs
@@ -58,3 +60,12 @@ empty-unique l h x y = same-members (x .whole) (y .whole) l h (λ k. x .members 
 
 pub put-unique : {ws rs us : List ℕ} {p : ℕ} → InWords rs → InWords us → Put ws p rs → Put ws p us → rs ≡ us
 put-unique l h x y = same-members (x .whole) (y .whole) l h (λ k. x .members k ∙ sym (y .members k))
+
+pub taken-unique : {ws rs us : List ℕ} {p : ℕ} → InWords rs → InWords us → Taken ws p rs → Taken ws p us → rs ≡ us
+taken-unique l h x y = same-members (x .whole) (y .whole) l h (λ k. x .members k ∙ sym (y .members k))
+
+pub added-unique : {ws vs rs us : List ℕ} → InWords rs → InWords us → Added ws vs rs → Added ws vs us → rs ≡ us
+added-unique l h x y = same-members (x .whole) (y .whole) l h (λ k. x .members k ∙ sym (y .members k))
+
+pub loaded-unique : {table rs us : List ℕ} {i n : ℕ} → InWords rs → InWords us → Loaded table i n rs → Loaded table i n us → rs ≡ us
+loaded-unique l h x y = same-members (x .whole) (y .whole) l h (λ k. x .members k ∙ sym (y .members k))

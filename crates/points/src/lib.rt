@@ -47,7 +47,7 @@ pub fn add(words: &mut [u32; 24], more: &[u32; 24])
     requires { ⌜ Whole (now words) ⌝ }
     ensures { λ _. ⌜ Added (now (words .entry)) (now (more .entry)) (now (words .exit)) ⌝ }
 {
-    // as a slice, which brings the proof that it has 24 words
+    // A slice brings the proof of its length, which a lent array does not.
     let more = &more[..];
     let mut i = 0;
     while i < 24 {
@@ -60,6 +60,7 @@ pub fn add(words: &mut [u32; 24], more: &[u32; 24])
 pub fn width(words: &[u32; 24]) -> usize
     ensures { λ r. ⌜ Narrow (now (words .entry)) r ⌝ }
 {
+    // a slice for the proof of its length, as in `add`
     let words = &words[..];
     let mut n = 24;
     while 0 < n {
