@@ -1,5 +1,5 @@
--- Sets of points: how a set is kept, and which points are in it. No contract of another crate speaks of a set but through `Whole`
--- and `member`.
+-- Sets of points: how a set is kept, and which points are in it. No contract of another crate speaks of a set but through `Whole`,
+-- `member`, and `kept` of a set in a table.
 -- Assumes nothing.
 use mathlib.Core.Path.{_≡_}
 use mathlib.Core.Logic.{_⊎_}
