@@ -2,7 +2,7 @@
 -- Assumes nothing.
 use mathlib.Core.Path.{_≡_, refl, _∙_}
 use mathlib.Core.Logic.{_≢_}
-use mathlib.Core.Bool.{Bool, true, false, not, _&&_}
+use mathlib.Core.Bool.{Bool, false, not, _&&_}
 use mathlib.Core.List.{List}
 use Prim.Native.Nat.{ℕ, zero, suc, _*_, _/_, _%_, _^_, _<_}
 use native.Mathlib.Omega.{arith}
@@ -54,7 +54,8 @@ module _ (ws : List ℕ) (p x : ℕ) (l : p / 32 < length ws) (same : (b : ℕ) 
 
 -- the words, with the word of point p changed by its bit as the code makes it
 module _ (change : ℕ → ℕ → ℕ) (same : (w b k : ℕ) → k ≢ b → bit (change w (2 ^ b)) k ≡ bit w k) where
-  changed : (ws : List ℕ) {rs : List ℕ} {p i : ℕ} → Whole ws → p < 768 → i ≡ p / 32 → rs ≡ set ws i (change (getD ws i 0) (1 * 2 ^ bitAnd p 31 % 4294967296))
+  changed : (ws : List ℕ) {rs : List ℕ} {p i : ℕ} → Whole ws → p < 768 → i ≡ p / 32
+      → rs ≡ set ws i (change (getD ws i 0) (1 * 2 ^ bitAnd p 31 % 4294967296))
       → (f : ℕ → Bool) → eqb (bit (change (getD ws (p / 32) 0) (2 ^ (p % 32))) (p % 32)) 1 ≡ f p → ((k : ℕ) → k ≢ p → member ws k ≡ f k)
       → Whole rs × ((k : ℕ) → member rs k ≡ f k)
   unfolding Whole
@@ -67,11 +68,13 @@ module _ (change : ℕ → ℕ → ℕ) (same : (w b k : ℕ) → k ≢ b → bi
 pub written : {ws rs : List ℕ} {p i : ℕ} → Whole ws → p < 768 → i ≡ p / 32
     → rs ≡ set ws i (bitOr (getD ws i 0) (1 * 2 ^ bitAnd p 31 % 4294967296)) → Put ws p rs
 written {ws} {rs} {p} z l e w =
-    let h = changed bitOr put-other ws z l e w (mark p (member ws)) (rw (put-bit (getD ws (p / 32) 0) (p % 32), eq-eqb p p refl) refl) (λ k n. rw (ne-eqb k p n) refl) in
+    let h = changed bitOr put-other ws z l e w (mark p (member ws))
+    (rw (put-bit (getD ws (p / 32) 0) (p % 32), eq-eqb p p refl) refl) (λ k n. rw (ne-eqb k p n) refl) in
     record { whole = h .0; members = h .1 }
 
 pub taken : {ws rs : List ℕ} {p i : ℕ} → Whole ws → p < 768 → i ≡ p / 32
     → rs ≡ set ws i (cut (getD ws i 0) (1 * 2 ^ bitAnd p 31 % 4294967296)) → Taken ws p rs
 taken {ws} {rs} {p} z l e w =
-    let h = changed cut cut-other ws z l e w (λ k. not (eqb k p) && member ws k) (rw (cut-bit (getD ws (p / 32) 0) (p % 32), eq-eqb p p refl) refl) (λ k n. rw (ne-eqb k p n) refl) in
+    let h = changed cut cut-other ws z l e w (λ k. not (eqb k p) && member ws k)
+    (rw (cut-bit (getD ws (p / 32) 0) (p % 32), eq-eqb p p refl) refl) (λ k n. rw (ne-eqb k p n) refl) in
     record { whole = h .0; members = h .1 }

@@ -9,7 +9,7 @@ use native.Mathlib.Decide.{ℕ-discrete, decLt}
 use lib.Dec.{T}
 use lib.ListN.{length, getD, set, List·getD-eq-default}
 use lib.Bits.{bitOr, or-zero-r}
-use Rattle.points.specs.Points.{Whole, bit, member, Added, Narrow}
+use Rattle.points.specs.Points.{Whole, member, Added, Narrow}
 use Rattle.points.proofs.Bits.{zero-bit, either-put}
 use Rattle.points.proofs.Storing.{Stored, stored-more}
 
@@ -39,14 +39,18 @@ narrow ws {n} l h clear = record { low = l; members = λ k t. go k t (decLt (k /
 abbrev pub Joined : (ws us : List ℕ) (i : ℕ) (rs : List ℕ) → Type 0
 Joined ws us i rs = Stored (λ j. bitOr (getD ws j 0) (getD us j 0)) ws 0 i rs
 
-pub joined-more : (ws us rs : List ℕ) {i : ℕ} → Whole ws → i < 24 → Joined ws us i rs → Joined ws us (i + 1) (set rs i (bitOr (getD rs i 0) (getD us i 0)))
+pub joined-more : (ws us rs : List ℕ) {i : ℕ} → Whole ws → i < 24 → Joined ws us i rs
+    → Joined ws us (i + 1) (set rs i (bitOr (getD rs i 0) (getD us i 0)))
 unfolding Whole
 joined-more ws us rs {i} x l s = stored-more (omega arith) (rw (s .others i (inr (omega arith))) refl) (omega arith) s
 
 pub added : (ws us rs : List ℕ) {i : ℕ} → Whole ws → length us ≡ 24 → i ≡ 24 → Joined ws us i rs → Added ws us rs
 unfolding Whole member
 added ws us rs {i} x y e s =
-    record { whole = s .size ∙ x; members = λ k. rw (word (k / 32) (decLt (k / 32) 24)) (either-put (getD ws (k / 32) 0) (getD us (k / 32) 0) (k % 32)) }
+    record {
+      whole = s .size ∙ x;
+      members = λ k. rw (word (k / 32) (decLt (k / 32) 24)) (either-put (getD ws (k / 32) 0) (getD us (k / 32) 0) (k % 32));
+    }
   where
     word : (j : ℕ) → Dec (j < 24) → getD rs j 0 ≡ bitOr (getD ws j 0) (getD us j 0)
     word j (yes low) = s .done j j (omega arith) (omega arith)

@@ -50,7 +50,8 @@ returns : tie.Need-returns Inv-loop μ-loop
 returns c =
     let head = c .before in
     let start = head .before .before in
-    added (start .args .words .now) (start .args .more .now) (head .loop .words) (start .pre) (head .before .more .given .0) (omega arith) (head .loop .inv .1)
+    added (start .args .words .now) (start .args .more .now) (head .loop .words) (start .pre) (head .before .more .given .0)
+    (omega arith) (head .loop .inv .1)
 
 pub add-spec : {M : Type 1} → statement M
 add-spec =
