@@ -1,11 +1,11 @@
 // What a pull-out costs, by kind and size of yard, for trains one decimetre below the longest that has a pull-out, at it and
 // one above. bench/pull_out_table builds and runs this and prints the table.
-//   pull_out_tries            every case in a process of its own: number, family, whether it is to be linear,
-//                             size, sections, length, answer, nanoseconds
+//   pull_out_tries            every case in a process of its own: number, family, how its cost may grow, size, sections,
+//                             length, answer, nanoseconds
 //   pull_out_tries NUMBER     the case of this number, once, for counting instructions
 #include "count_marks.h"
+#include "families.h"
 #include "finder.h"
-#include "yards.h"
 #include <chrono>
 #include <cstdio>
 #include <cstdlib>
@@ -51,7 +51,7 @@ long long nanoseconds(Case &one, finder_pull &pull) {
 }
 
 void print(size_t number, const Case &one, const char *answer, long long time) {
-    std::printf("%zu\t%s\t%d\t%u\t%u\t%u\t%s\t%lld\n", number, one.family->name, one.family->linear, one.size,
+    std::printf("%zu\t%s\t%s\t%u\t%u\t%u\t%s\t%lld\n", number, one.family->name, words(one.family->growth), one.size,
                 one.plan.count(), one.length, answer, time);
     std::fflush(stdout);
 }

@@ -227,6 +227,14 @@ inline YardCase crossovers_and_loop(uint32_t cells) {
     return {b.plan, 20 + 2 * 40 * cells + 20 + 20};
 }
 
+// The same with no turn forbidden but the one that is asked about. No run is longer for that: a point is passed once at most, and
+// the longest run passes them all.
+inline YardCase joined_without_turns(uint32_t cells) {
+    YardCase yard = crossovers_and_loop(cells);
+    yard.plan.turns.resize(2);
+    return yard;
+}
+
 // Switches fanning out to dead ends, level by level.
 inline YardCase depot(uint32_t points) {
     Builder b;
@@ -277,27 +285,3 @@ inline YardCase chords(uint32_t points) {
     for (uint32_t i = 0; i < points; i++) b.track(circle[i], circle[(i + 1) % points]);
     return {b.plan, 20 * (points + 1)};
 }
-
-struct Family {
-    const char *name;
-    bool linear; // the cost is to grow no faster than the number of sections
-    YardCase (*yard)(uint32_t size);
-    std::vector<uint32_t> sizes;
-};
-
-inline const std::vector<Family> families{
-    {"chain of passing loops, equal tracks", true, equal_tracks, {20, 60, 100, 240}},
-    {"chain of passing loops, shorter track first", true, shorter_first, {20, 60, 100, 240}},
-    {"chain of passing loops, balloon at the end", true, balloon_end, {20, 60, 100, 240}},
-    {"chain of passing loops, on into a balloon", true, loops_in_balloon, {20, 60, 100, 240}},
-    {"chain of passing loops, back to s", true, ring, {20, 60, 100, 240}},
-    {"passing loops and balloons along the line", true, balloons_along, {10, 30, 60, 100}},
-    {"ladder of tracks", true, ladder_of_tracks, {20, 60, 100, 190}},
-    {"stations of three tracks in line", true, stations, {8, 20, 40, 76}},
-    {"double track with crossovers", true, crossovers, {20, 60, 100, 160}},
-    {"depot fanning out", true, depot, {45, 189, 381, 765}},
-    {"ring line on a triangle", false, ring_on_triangle, {4, 8, 12, 16, 20, 240}},
-    {"double track with crossovers, joined at its end", false, crossovers_and_loop, {4, 6, 8, 10, 12, 16}},
-    {"ladder of rungs", false, rungs, {8, 10, 12, 14, 16, 20, 24}},
-    {"ring with chords", false, chords, {16, 20, 24, 28, 32, 36, 44}},
-};

@@ -1,7 +1,7 @@
 // Yards as they are built, up to the limits of a plan, and the largest plans there can be.
 #pragma once
+#include "../../bench/families.h"
 #include "../../bench/search_queries.h"
-#include "../../bench/yards.h"
 #include "../random_queries.h"
 #include "queries.h"
 
@@ -38,11 +38,21 @@ inline void realistic_yard(Run &run, Draw &draw, uint64_t turn) {
     pull_out_cases(draw, site, 2, 8000);
 }
 
+// The families in which a train has few ways to run on, so that the second program can write down all of them.
+inline const std::vector<Family> &linear_families() {
+    static const std::vector<Family> linear = [] {
+        std::vector<Family> some = families;
+        std::erase_if(some, [](const Family &family) { return family.growth != Growth::linear; });
+        return some;
+    }();
+    return linear;
+}
+
 // Chains of loops, balloons, ladders and the like, small enough for trains as long as the longest run, or of any size
 // for short trains.
 inline void pull_out_yard(Run &run, Draw &draw, uint64_t turn) {
-    const Family &family = families[turn % families.size()];
-    const bool large = family.linear && draw.one_in(4);
+    const Family &family = linear_families()[turn % linear_families().size()];
+    const bool large = draw.one_in(4);
     const YardCase yard = family.yard(large ? family.sizes.back() : 2 + draw.below(3));
     Site site(run, yard.plan);
     site.plan_case();
