@@ -56,8 +56,8 @@ struct SideBySide {
     uint32_t last() const { return static_cast<uint32_t>(ends.size() - 1); }
 };
 
-// Two tracks that are joined at the end of the line. Every station has two platforms for each of them, and behind it crossovers
-// both ways. The longest run goes out on one track and back on the other, by the longer platforms.
+// Two tracks that are joined at the end of the line. Every station has two platforms for each of them, and behind it
+// crossovers both ways. The longest run goes out on one track and back on the other, by the longer platforms.
 inline YardCase metro(uint32_t stations) {
     SideBySide line(2);
     for (uint32_t i = 0; i < stations; i++) {
@@ -70,9 +70,9 @@ inline YardCase metro(uint32_t stations) {
     return {line.b.plan, 20 + 2 * (40 + 3 * 20) * stations + 20 + 20};
 }
 
-// The same with the crossovers inside the stations, between a platform of one track and one of the other. A train that goes out
-// over both crossovers leaves the other platform for its way back, so that each way out of a station makes another way back:
-// the longest run does so, or goes over neither.
+// The same with the crossovers inside the stations, between a platform of one track and one of the other. A train that
+// goes out over both crossovers is left one platform for its way back, and two if it goes out over none: what the way
+// back comes to hangs on the way out at each station. The longest run goes out over both, or over none.
 inline YardCase metro_crossing_in_stations(uint32_t stations) {
     SideBySide line(2);
     for (uint32_t i = 0; i < stations; i++) {
@@ -87,8 +87,8 @@ inline YardCase metro_crossing_in_stations(uint32_t stations) {
     return {line.b.plan, 20 + 2 * 5 * 20 * stations + 20 + 20};
 }
 
-// Three tracks with groups of four crossovers, the outer ones joined at their end. The longest run goes out on the first track, over
-// five sections in place of one where it changes to the middle one and back, and comes back on the third.
+// Three tracks with groups of four crossovers, the outer ones joined at their end. The longest run goes out on the first
+// track, over five sections in place of one where it changes to the middle one and back, and comes back on the third.
 inline YardCase three_tracks(uint32_t groups) {
     SideBySide tracks(3);
     for (uint32_t i = 0; i < groups; i++) {

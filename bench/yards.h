@@ -227,8 +227,8 @@ inline YardCase crossovers_and_loop(uint32_t cells) {
     return {b.plan, 20 + 2 * 40 * cells + 20 + 20};
 }
 
-// The same with no turn forbidden but the one that is asked about. No run is longer for that: a point is passed once at most, and
-// the longest run passes them all.
+// The same with no turn forbidden but the one that is asked about. No run is longer for that: a point is passed once at
+// most, and the longest run passes them all.
 inline YardCase joined_without_turns(uint32_t cells) {
     YardCase yard = crossovers_and_loop(cells);
     yard.plan.turns.resize(2);

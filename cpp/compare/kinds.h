@@ -2,6 +2,7 @@
 // seed alone.
 #pragma once
 #include "files.h"
+#include "lessons.h"
 #include "loopy.h"
 #include "odd.h"
 #include "realistic.h"
@@ -13,7 +14,7 @@ struct Kind {
     void (*cases)(Run &, Draw &, uint64_t turn);
 };
 
-inline constexpr std::array<Kind, 10> kinds{{
+inline constexpr std::array<Kind, 11> kinds{{
     {20, loopy_yard},
     {12, damaged_yard},
     {14, next_tiny_yard},
@@ -23,6 +24,7 @@ inline constexpr std::array<Kind, 10> kinds{{
     {1, long_file},
     {4, realistic_yard},
     {2, pull_out_yard},
+    {4, lesson_yard},
     {1, largest_yard},
 }};
 
