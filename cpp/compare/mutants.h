@@ -1,6 +1,7 @@
 // Wrong finders, each named after its error, and the run that has to catch every one of them.
 #pragma once
 #include "kinds.h"
+#include "wrong_lessons.h"
 #include "wrong_plans.h"
 #include "wrong_pull_outs.h"
 #include "wrong_readers.h"
@@ -57,6 +58,12 @@ inline const std::vector<Mutant> &mutants() {
         {"pull-out: forbidden turn holds one way only", pull_out_finder<turn_holds_one_way>()},
         {"pull-out: free length from the far end", pull_out_finder<free_from_the_far_end>()},
         {"pull-out: highest section first", pull_out_finder<highest_section_first_out>()},
+        {"pull-out: learns without the mark that was met", pull_out_finder<learns<Error::mark_left_out>>()},
+        {"pull-out: learns without a section's length", pull_out_finder<learns<Error::length_left_out>>()},
+        {"pull-out: learns from two sections of three", pull_out_finder<learns<Error::third_left_out>>()},
+        {"pull-out: learns for any section come over", pull_out_finder<learns<Error::any_arrival>>()},
+        {"pull-out: learns of points below 32 only", pull_out_finder<learns<Error::first_points_only>>()},
+        {"pull-out: learns to end what is allowed", pull_out_finder<learns<Error::as_much_as_it_allows>>()},
         {"sheet: any label at an end", sheet_finder<sheet_without<second::end_label>>()},
         {"sheet: any label before a step", sheet_finder<sheet_without<second::step_label>>()},
         {"sheet: start label compared with <=", sheet_finder<sheet_without<second::start_label_equal>>()},
@@ -90,7 +97,14 @@ inline uint64_t caught_at(const Mutant &mutant, uint64_t seed) {
     return 0;
 }
 
-// The library itself passes the cases that catch the wrong finders.
+inline void passes_cases(const char *whose, const Finder &finder, uint64_t seed, uint64_t cases) {
+    Run run(finder);
+    for (uint64_t number = 0; run.cases() < cases; number++) yard_cases(run, seed, number);
+    std::printf("%s passes the same %ju cases\n", whose, static_cast<uintmax_t>(run.cases()));
+}
+
+// The library itself passes the cases that catch the wrong finders, and so does a learner without an error: it is the errors
+// that are caught.
 inline bool all_mutants_caught(uint64_t seed) {
     uint64_t last = 0, caught = 0;
     for (const Mutant &mutant : mutants()) {
@@ -98,9 +112,8 @@ inline bool all_mutants_caught(uint64_t seed) {
         caught += at > 0;
         last = std::max(last, at);
     }
-    Run run{Finder{}};
-    for (uint64_t number = 0; run.cases() < last; number++) yard_cases(run, seed, number);
-    std::printf("the library passes the same %ju cases\n", static_cast<uintmax_t>(run.cases()));
+    passes_cases("the library", {}, seed, last);
+    passes_cases("a learner without an error", pull_out_finder<wrong::learns<wrong::Error::none>>(), seed, last);
     if (caught < mutants().size()) return false;
     std::printf("%zu mutants, all caught\n", mutants().size());
     return true;
