@@ -3,7 +3,7 @@
 -- Assumes nothing.
 use mathlib.Core.Path.{_≡_, refl}
 use mathlib.Core.Logic.{_≢_, _⊎_, inl, inr, _↔_, ⊎-elim}
-use mathlib.Core.Bool.{Bool, true, false, not, _&&_, _||_}
+use mathlib.Core.Bool.{Bool, true, false, not, _&&_, _||_, false≢true}
 use Prim.Native.Nat.{ℕ, _≤_, _<_}
 use native.Mathlib.Omega.{arith}
 use lib.Dec.{T, eqb, eqb→eq, eqb-refl, leb, leb→le, le→leb, nleb→lt}
@@ -36,6 +36,10 @@ clash false t n = t
 pub fails : (b : Bool) → (T b → ⊥) → T (not b)
 fails true f = f tt
 fails false f = tt
+
+-- a test that says no claims nothing
+pub says-no : {A : Type 0} → false ≡ true → A
+says-no z = absurd (false≢true z)
 
 -- a failed "a and not b" is "a, so b"
 pub unless-T : (a b : Bool) → T (not (a && not b)) → T a → T b
