@@ -20,8 +20,8 @@ use Rattle.plan.specs.declared.Checked.{Checked}
 use Rattle.plan.specs.declared.Checked.the-variants.{Passed, Refused}
 use Rattle.plan.specs.Answer.{checked-of}
 use Rattle.plan.proofs.Answers.{answer-passes, answer-refuses}
-use Rattle.bounds.specs.Tables.{Arrived}
-use Rattle.pullout.specs.Searched.{Searched, none-there, first-there}
+use Rattle.turns.specs.Tables.{Arrived}
+use Rattle.tries.specs.Searched.{Searched, none-there, first-there}
 use Rattle.pullout.proofs.Asking.{met, both-there, comes}
 
 -- the arrival that is asked for comes to its point

@@ -15,9 +15,9 @@ use Rattle.rules.proofs.Ranges.{some-T}
 use Rattle.rules.proofs.Branches.{and-on, and-off}
 use Rattle.rules.proofs.Sound.{sound-plan, at-both-ends}
 use Rattle.rules.proofs.TurnPoints.{is-turn, turn-cases}
-use Rattle.bounds.specs.Tables.{Passes, TurnTable, forbidden-by, Arrived}
-use Rattle.bounds.proofs.TurnsByPoint.{by-table}
-use Rattle.bounds.proofs.Entering.{arrived-low}
+use Rattle.turns.specs.Tables.{Passes, TurnTable, forbidden-by, Arrived}
+use Rattle.turns.proofs.TurnsByPoint.{by-table}
+use Rattle.turns.proofs.Entering.{arrived-low}
 
 -- a test r of b whose other value was asked for
 pub was-false : {r b : Bool} → r ≡ b → not r ≡ true → false ≡ b

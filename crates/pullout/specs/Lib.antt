@@ -1,6 +1,2 @@
--- What this crate says beyond the rules: the marks of a try, what a look at a section tells, and what a search answers.
-pub mod Marks
-pub mod Looked
-pub mod Tried
-pub mod Searched
+-- What this crate says beyond the rules: its answer as numbers.
 pub mod Answer

@@ -4,11 +4,11 @@ ghost use mathlib.Core.Bool.{_&&_};
 ghost use lib.Dec.{ltb};
 ghost use Rattle.rules.specs.Plan.{plan-of, of-sections, section-count, arrivals, to-point, touches};
 ghost use Rattle.rules.specs.PullAnswer.{reversal-of, turn-asked};
-ghost use Rattle.bounds.specs.Tables.{Passes, TurnTable};
-use bounds::turn_table::is_forbidden;
+ghost use Rattle.turns.specs.Tables.{Passes, TurnTable};
 use plan::read::has_section;
 use plan::read::section_number;
 use plan::section::touches;
+use turns::turn_table::is_forbidden;
 
 // The point to which an arrival comes.
 pub(crate) fn arrival_point(sections: &[u32], arrival: u32) -> u32

@@ -1,9 +1,7 @@
 // The pull-out of one reversal: refusals 1 to 7, 15, 16 and 14, and the first pull-out.
 mod asked;
 pub mod copy;
-pub mod look;
-mod marks;
-pub mod search;
+mod find;
 
 ghost use mathlib.Core.Path.{_≡_};
 ghost use Prim.Native.Nat.{ℕ};
@@ -13,16 +11,16 @@ ghost use Rattle.rules.specs.Plan.{plan-of};
 ghost use Rattle.rules.specs.Refusals.{verdict, passed};
 ghost use Rattle.rules.specs.PlanCheck.{plan-checks};
 ghost use Rattle.rules.specs.PullAnswer.{reversal-of, turn-asked, pull-checks, PullAnswer};
-ghost use Rattle.bounds.specs.Tables.{Passes, TurnTable};
+ghost use Rattle.turns.specs.Tables.{Passes, TurnTable};
 ghost use Rattle.pullout.specs.Answer.{numbers-of};
 use asked::arrival_point;
 use asked::turn_asked;
-use bounds::turn_table::turn_table;
 use copy::copy_front;
+use find::find_pull_out;
 use plan::Checked;
 use plan::check_plan;
-use search::find_pull_out;
 use train::train_good;
+use turns::turn_table::turn_table;
 
 // What is answered: how many sections were written, or a refusal's number and place.
 pub enum Pulled {

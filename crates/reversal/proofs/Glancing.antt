@@ -11,11 +11,10 @@ use Rattle.rules.specs.Plan.{plan-of, len, is-free, far, free-from}
 use Rattle.rules.specs.PullOut.{any-section}
 use Rattle.rules.proofs.Tests.{clash, says-true, says-false}
 use Rattle.rules.proofs.Ways.{may-use, mark, Way, next, free-whole, way-fits, way-onward}
-use Rattle.pullout.specs.declared.look.Look.the-variants.{Shut, Last, On}
-use Rattle.bounds.specs.Tables.{Passes, Arrived}
-use Rattle.bounds.specs.Reach.{Enters}
-use Rattle.bounds.proofs.Reach.{at-far}
-use Rattle.bounds.proofs.Entering.{entry, entry-T, T-entry, far-low}
+use Rattle.reversal.specs.declared.glance.Ahead.the-variants.{Shut, Last, On}
+use Rattle.turns.specs.Tables.{Passes, Arrived}
+use Rattle.turns.specs.Enters.{Enters}
+use Rattle.turns.proofs.Entering.{at-far, entry, entry-T, T-entry, far-low}
 use Rattle.reversal.specs.Glanced.{Takes, GoesOver, Glanced}
 
 -- a glance at section e

@@ -6,9 +6,9 @@ use mathlib.Core.List.{List, [], _∷_}
 use Prim.Native.Nat.{ℕ, _+_, _-_, _*_}
 use native.Mathlib.Omega.{arith}
 use lib.ListN.{getD}
-use Rattle.bounds.specs.Tables.{Tables}
-use Rattle.pullout.specs.Tried.{Heads, Over}
-use Rattle.pullout.proofs.Going.{in-slots}
+use Rattle.turns.specs.Tables.{Tables}
+use Rattle.tries.specs.Tried.{Heads, Over}
+use Rattle.tries.proofs.Going.{in-slots}
 use Rattle.reversal.specs.Glanced.{Takes}
 use Rattle.reversal.specs.Guessed.{Guessed}
 

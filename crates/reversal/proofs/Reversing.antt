@@ -12,7 +12,7 @@ use Rattle.rules.specs.PullOut.{PullOut, NoPullOut, any-section}
 use Rattle.rules.proofs.Ways.{may-use, only, Way}
 use Rattle.rules.proofs.AnyPoints.{way-points}
 use Rattle.rules.proofs.PullWays.{way-pull, no-pull}
-use Rattle.pullout.specs.Searched.{Searched, none-there, first-there}
+use Rattle.tries.specs.Searched.{Searched, none-there, first-there}
 use Rattle.reversal.specs.Reverses.{Reverses, can, can-not}
 use Rattle.reversal.specs.Glanced.{Takes}
 

@@ -14,8 +14,8 @@ use Rattle.rules.specs.Plan.{plan-of}
 use Rattle.rules.specs.PullOut.{any-section}
 use Rattle.rules.proofs.Tests.{fails}
 use Rattle.rules.proofs.Ways.{may-use, only, mark, mark-cases, Way, last}
-use Rattle.pullout.specs.declared.look.Look.the-variants.{Last}
-use Rattle.bounds.specs.Tables.{Arrived}
+use Rattle.reversal.specs.declared.glance.Ahead.the-variants.{Last}
+use Rattle.turns.specs.Tables.{Arrived}
 use Rattle.reversal.specs.Reverses.{Reverses}
 use Rattle.reversal.specs.Glanced.{GoesOver, Glanced}
 use Rattle.reversal.proofs.Glancing.{over-arrived, over-way}

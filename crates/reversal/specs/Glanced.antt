@@ -9,9 +9,9 @@ use lib.Dec.{T}
 use Rattle.rules.specs.Plan.{plan-of, len, is-free, far, free-from}
 use Rattle.rules.specs.PullOut.{any-section}
 use Rattle.rules.proofs.Ways.{may-use, Way}
-use Rattle.pullout.specs.declared.look.Look.{Look}
-use Rattle.pullout.specs.declared.look.Look.the-variants.{Shut, Last, On}
-use Rattle.bounds.specs.Reach.{Enters}
+use Rattle.reversal.specs.declared.glance.Ahead.{Ahead}
+use Rattle.reversal.specs.declared.glance.Ahead.the-variants.{Shut, Last, On}
+use Rattle.turns.specs.Enters.{Enters}
 
 -- the list takes the length n of a train that came over section h to p and is pulled out for the turn from c to s, with some marks
 pub record Takes (ss ts : List ℕ) (c s n h p : ℕ) (qs : List ℕ) : Type 0 where
@@ -27,7 +27,7 @@ pub record GoesOver (ss ts : List ℕ) (c s n h p e q m : ℕ) : Type 0 where
   pub left : m ≡ n - len (plan-of 0 ss ts) e
 
 -- a glance at section e tells that no list begins with it, that it takes what is left, or that the train goes on over it
-abbrev pub Glanced : List ℕ → List ℕ → ℕ → ℕ → ℕ → ℕ → ℕ → ℕ → Look → Type 0
+abbrev pub Glanced : List ℕ → List ℕ → ℕ → ℕ → ℕ → ℕ → ℕ → ℕ → Ahead → Type 0
 Glanced ss ts c s n h p e Shut = (qs : List ℕ) → Takes ss ts c s n h p (e ∷ qs) → ⊥
 Glanced ss ts c s n h p e Last = Enters ss ts c s h p e × (n ≤ free-from (plan-of 0 ss ts) e p)
 Glanced ss ts c s n h p e (On q m) = GoesOver ss ts c s n h p e q m

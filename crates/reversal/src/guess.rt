@@ -1,12 +1,12 @@
 // A guess at a pull-out: depth first and without marks, so that it costs little, and may pass a point twice. Guessing at a point guesses
 // at its sections, guessing at a section guesses at its far point; each section takes one off the budget.
-ghost use Rattle.bounds.specs.Tables.{Tables, Arrived};
-ghost use Rattle.pullout.specs.Tried.{Over};
+ghost use Rattle.turns.specs.Tables.{Tables, Arrived};
+ghost use Rattle.tries.specs.Tried.{Over};
 ghost use Rattle.reversal.specs.Glanced.{Takes};
 ghost use Rattle.reversal.specs.Guessed.{Guessed};
+use crate::glance::Ahead;
 use crate::glance::glance;
 use plan::slots::slot_at;
-use pullout::look::Look;
 
 // A guess from the point p on, come there over section h with the length n left; k is the budget. Its sections stand in the list
 // from place d on. The answer is 0 where it ends: with a guess, too deep for the list, or with the budget spent. Else there is
@@ -65,9 +65,9 @@ fn guess_section(
     let i = k - 1;
     let seen = glance(sections, turns, table, c, s, h, p, e, n);
     match seen {
-        Look::Shut => i,
-        Look::Last => 0,
-        Look::On(q, m) => {
+        Ahead::Shut => i,
+        Ahead::Last => 0,
+        Ahead::On(q, m) => {
             guess_point(sections, turns, slots, table, c, s, e, q, m, d + 1, i, list)
         }
     }

@@ -6,13 +6,12 @@ mod run;
 
 ghost use Prim.Native.Nat.{ℕ, _<_};
 ghost use Rattle.rules.specs.Plan.{plan-of};
-ghost use Rattle.bounds.specs.Tables.{Tables, Arrived};
+ghost use Rattle.turns.specs.Tables.{Tables, Arrived};
 ghost use Rattle.reversal.specs.Reverses.{Reverses};
-use cut::cut_for;
 use guess::guess_point;
-use pullout::search::first_pull_out;
 use run::follow;
 use run::runs_out;
+use tries::first_pull_out;
 
 // How many sections a guess may try.
 const BUDGET: u32 = 256;
@@ -32,20 +31,7 @@ fn search_reversal(
     ensures { λ r. ⌜ ((v : ℕ) → Reverses (plan-of v (now (sections .entry)) (now (turns .entry))) length c p s r) ⌝ }
 {
     let mut list = [0; 768];
-    let cut = cut_for(sections, turns, slots, table, c, p, s, length);
-    first_pull_out(
-        sections,
-        turns,
-        slots,
-        table,
-        &cut,
-        &mut list,
-        length,
-        c,
-        p,
-        s,
-    )
-        != 0
+    first_pull_out(sections, turns, slots, table, &mut list, length, c, p, s) != 0
 }
 
 // A train of this length that came over section c to its end p can be pulled out there and go on over section s.

@@ -6,11 +6,11 @@ ghost use mathlib.Core.Logic.{_≢_};
 ghost use Prim.Native.Nat.{ℕ, _<_};
 ghost use lib.ListN.{getD};
 ghost use Rattle.rules.specs.Plan.{plan-of};
-ghost use Rattle.bounds.specs.Tables.{Passes, TurnTable, Tables, Arrived};
+ghost use Rattle.turns.specs.Tables.{Passes, TurnTable, Tables, Arrived};
 ghost use Rattle.reversal.specs.Reverses.{Reverses};
+use crate::glance::Ahead;
 use crate::glance::glance;
 use plan::slots::slot_at;
-use pullout::look::Look;
 
 // The point q is among the first of the points passed, or the list has no place for it.
 fn has_passed(passed: &[u32; 64], count: usize, q: u32) -> bool
@@ -52,9 +52,9 @@ pub(crate) fn follow(
         let e = list[i];
         let seen = glance(sections, turns, table, c, s, h, at, e, left);
         match seen {
-            Look::Shut => return false,
-            Look::Last => return true,
-            Look::On(q, n) => {
+            Ahead::Shut => return false,
+            Ahead::Last => return true,
+            Ahead::On(q, n) => {
                 i += 1;
                 if has_passed(&passed, i, q) {
                     return false;
@@ -93,9 +93,9 @@ pub(crate) fn runs_out(
         let e = slot_at(slots, at, j);
         let seen = glance(sections, turns, table, c, s, h, at, e, left);
         match seen {
-            Look::Shut => j += 1,
-            Look::Last => return true,
-            Look::On(q, n) => {
+            Ahead::Shut => j += 1,
+            Ahead::Last => return true,
+            Ahead::On(q, n) => {
                 i += 1;
                 if has_passed(&passed, i, q) {
                     return false;

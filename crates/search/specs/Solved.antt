@@ -8,7 +8,7 @@ use Rattle.rules.specs.Query.{Query, start-arrival}
 use Rattle.rules.specs.Net.{no-distance, Net, FirstShortest, Remaining}
 use Rattle.rules.specs.Trip.{query-net}
 use Rattle.rules.proofs.Sound.{Sound}
-use Rattle.bounds.specs.Tables.{Tables}
+use Rattle.turns.specs.Tables.{Tables}
 use Rattle.distance.specs.Labels.{Blank}
 
 -- there is a label for each of n arrivals, and it is the remaining distance

@@ -23,7 +23,6 @@ ghost use Rattle.rules.specs.Search.{Answer};
 ghost use Rattle.plan.specs.Ends.{Slots};
 ghost use Rattle.train.specs.Asked.{query-asked, Accepted};
 ghost use Rattle.search.specs.Answer.{result-of};
-use bounds::turn_table::turn_table;
 use plan::Checked;
 use plan::check_and_index;
 use plan::slots::NO_SECTION;
@@ -31,6 +30,7 @@ use rules::NO_DISTANCE;
 use solve::solve;
 use train::Asked;
 use train::check_train;
+use turns::turn_table::turn_table;
 use write::write_answer;
 
 // What is answered: a walk's total, reversals and steps, or a refusal's number and place.

@@ -5,7 +5,7 @@ ghost use lib.ListN.{length, getD};
 ghost use Rattle.rules.specs.Query.{start-arrival};
 ghost use Rattle.rules.specs.Net.{no-distance};
 ghost use Rattle.rules.specs.Search.{Answer};
-ghost use Rattle.bounds.specs.Tables.{TurnTable};
+ghost use Rattle.turns.specs.Tables.{TurnTable};
 ghost use Rattle.train.specs.Asked.{query-asked, Accepted};
 ghost use Rattle.search.specs.Solved.{Solved};
 ghost use Rattle.search.specs.Answer.{result-of};

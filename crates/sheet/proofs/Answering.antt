@@ -20,7 +20,7 @@ use Rattle.train.specs.Asked as asked
 use Rattle.train.proofs.Refusing.{RefusedWith, plan-accepted}
 use Rattle.plan.specs.declared.Checked.{Checked}
 use Rattle.plan.specs.declared.Checked.the-variants.{Passed, Refused}
-use Rattle.bounds.specs.Tables.{Passes}
+use Rattle.turns.specs.Tables.{Passes}
 use Rattle.sheet.specs.declared.Judged.the-variants as judged
 use Rattle.sheet.specs.Checking.{SheetPasses, SheetChecked}
 use Rattle.sheet.specs.Answer.{Judges}

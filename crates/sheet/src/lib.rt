@@ -20,10 +20,9 @@ ghost use Rattle.rules.specs.Query.{query-of};
 ghost use Rattle.rules.specs.Sheet.{sheet-of};
 ghost use Rattle.plan.specs.Ends.{Slots};
 ghost use Rattle.train.specs.Asked.{query-asked, Accepted};
-ghost use Rattle.bounds.specs.Tables.{TurnTable};
+ghost use Rattle.turns.specs.Tables.{TurnTable};
 ghost use Rattle.sheet.specs.Checking.{SheetPasses};
 ghost use Rattle.sheet.specs.Answer.{Judges};
-use bounds::turn_table::turn_table;
 use plan::Checked;
 use plan::check_and_index;
 use plan::slots::NO_SECTION;
@@ -33,6 +32,7 @@ use train::Asked;
 use train::check_train;
 use train::place::first_distance;
 use train::place::start_arrival;
+use turns::turn_table::turn_table;
 
 // What is answered: an accepted list's total, reversals and steps (zeros for "no route"), or a refusal's number and place.
 pub enum Judged {

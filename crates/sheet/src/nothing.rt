@@ -6,7 +6,7 @@ ghost use lib.ListN.{length, getD};
 ghost use Rattle.rules.specs.Net.{no-distance};
 ghost use Rattle.rules.specs.Sheet.{sheet-of};
 ghost use Rattle.train.specs.Asked.{query-asked, Accepted};
-ghost use Rattle.bounds.specs.Tables.{Tables};
+ghost use Rattle.turns.specs.Tables.{Tables};
 ghost use Rattle.sheet.specs.Checking.{SheetPasses};
 use rules::NO_DISTANCE;
 use steps::ends::has_end;

@@ -4,7 +4,7 @@ ghost use lib.ListN.{length};
 ghost use Rattle.rules.specs.Plan.{of-sections, section-count, arrivals};
 ghost use Rattle.rules.specs.Sheet.{sheet-of};
 ghost use Rattle.train.specs.Asked.{query-asked, Accepted};
-ghost use Rattle.bounds.specs.Tables.{Tables};
+ghost use Rattle.turns.specs.Tables.{Tables};
 ghost use Rattle.sheet.specs.Checking.{SheetChecked};
 use crate::claim::check_claim;
 use crate::nothing::claims_nothing;

@@ -8,8 +8,8 @@ use lib.Dec.{T}
 use Rattle.rules.specs.Plan.{of-sections, end-A, end-B, end-at, touches, arrivals, to-point, from-point}
 use Rattle.rules.proofs.Sound.{at-both-ends}
 use Rattle.plan.proofs.Touching.{touch-A, touch-B}
-use Rattle.bounds.specs.Tables.{Passes, Arrived}
-use Rattle.bounds.proofs.Entering.{arrived-low}
+use Rattle.turns.specs.Tables.{Passes, Arrived}
+use Rattle.turns.proofs.Entering.{arrived-low}
 use Rattle.pullout.proofs.Asking.{comes}
 
 -- p is the point to which a comes, as it was read

@@ -11,8 +11,8 @@ use lib.Seq.{getD-set-same, getD-set-other}
 use Rattle.rules.specs.Plan.{of-sections, arrivals, sec}
 use Rattle.rules.specs.Net.{no-distance}
 use Rattle.rules.specs.Trip.{Trip, Step, cost}
-use Rattle.bounds.specs.Tables.{Passes}
-use Rattle.bounds.proofs.Entering.{passed-joined}
+use Rattle.turns.specs.Tables.{Passes}
+use Rattle.turns.proofs.Entering.{passed-joined}
 use Rattle.steps.specs.declared.step.Train.{Train}
 use Rattle.steps.specs.StepTable.{Entry, Place, StepTable}
 use Rattle.steps.specs.StepOver.{trip, StepsFrom, Placed, pair-at}

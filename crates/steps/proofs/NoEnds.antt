@@ -11,8 +11,8 @@ use Rattle.rules.specs.Plan.{of-sections, section-count, end-A, end-B, end-at, 
 use Rattle.rules.proofs.Sound.{at-both-ends}
 use Rattle.plan.specs.Ends.{Indexed, no-section}
 use Rattle.plan.proofs.Touching.{touch-A, touch-B, touch-below}
-use Rattle.bounds.specs.Tables.{Arrived}
-use Rattle.bounds.proofs.ThreeSlots.{in-slot, ascending}
+use Rattle.turns.specs.Tables.{Arrived}
+use Rattle.turns.proofs.ThreeSlots.{in-slot, ascending}
 use Rattle.steps.proofs.Arrivals.{comes-there}
 
 module _ {ss slots : List ℕ} (indexed : Indexed ss slots) (finish enter : ℕ) (low : finish < section-count (of-sections ss)) (e : enter ≤ 1)

@@ -13,8 +13,8 @@ use Rattle.rules.specs.Net.{Walk, here, onward}
 use Rattle.rules.specs.Query.{query-of}
 use Rattle.rules.specs.Trip.{Trip, Step, reversals, net-of, trip-of}
 use Rattle.rules.proofs.Branches.{first-one, second-one}
-use Rattle.bounds.specs.Tables.{Passes, TurnTable, forbidden-by}
-use Rattle.bounds.proofs.TurnsByPoint.{by-table}
+use Rattle.turns.specs.Tables.{Passes, TurnTable, forbidden-by}
+use Rattle.turns.proofs.TurnsByPoint.{by-table}
 use Rattle.steps.specs.Linked.{Link, Linked, linked, linked-end}
 use Rattle.steps.proofs.Arrivals.{comes-there, point-low, begins-there}
 

@@ -8,9 +8,9 @@ use native.Mathlib.Omega.{arith}
 use lib.ListN.{getD}
 use Rattle.rules.specs.Plan.{of-sections, section-count, arrivals, to-point, sec}
 use Rattle.plan.specs.Ends.{Slots, no-section}
-use Rattle.bounds.specs.Tables.{Passes, Arrived}
-use Rattle.bounds.proofs.Entering.{passed-joined, passed-three}
-use Rattle.bounds.proofs.ThreeSlots.{in-slot}
+use Rattle.turns.specs.Tables.{Passes, Arrived}
+use Rattle.turns.proofs.Entering.{passed-joined, passed-three}
+use Rattle.turns.proofs.ThreeSlots.{in-slot}
 use Rattle.steps.specs.declared.step.Train.{Train}
 use Rattle.steps.specs.StepOver.{trip, other-than, Meets, StepOver, StepsFrom}
 use Rattle.steps.proofs.Arrivals.{comes-there, point-low, begins-there}

@@ -19,7 +19,7 @@ use Rattle.rules.proofs.TurnPoints.{is-turn, turn-cases, turn-there}
 use Rattle.rules.proofs.AnyPoints.{pull-points, barred-points}
 use Rattle.rules.proofs.PullSwap.{Barred, barred-back, swapped}
 use Rattle.plan.proofs.Known.{plan-turned}
-use Rattle.bounds.specs.Tables.{Passes, Arrived}
+use Rattle.turns.specs.Tables.{Passes, Arrived}
 use Rattle.reversal.specs.Reverses.{Reverses}
 use Rattle.reversal.proofs.Reversing.{reverses-true, reverses-false}
 use Rattle.steps.specs.Served.{TurnServed, Served}

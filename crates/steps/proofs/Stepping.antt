@@ -16,9 +16,9 @@ use Rattle.rules.specs.Trip.{Trip, Step}
 use Rattle.rules.proofs.Tests.{clash, says-true, says-false}
 use Rattle.rules.proofs.Sound.{sound-plan}
 use Rattle.rules.proofs.PullSwap.{Barred}
-use Rattle.bounds.specs.Tables.{forbidden-by, Arrived}
-use Rattle.bounds.proofs.TurnsByPoint.{by-table}
-use Rattle.bounds.proofs.Entering.{passed-joined}
+use Rattle.turns.specs.Tables.{forbidden-by, Arrived}
+use Rattle.turns.proofs.TurnsByPoint.{by-table}
+use Rattle.turns.proofs.Entering.{passed-joined}
 use Rattle.steps.specs.declared.step.Train.{Train}
 use Rattle.steps.specs.StepOver.{trip, may-enter, StepTables, Meets, arrival-over, StepOver}
 use Rattle.steps.proofs.Arrivals.{comes-there, point-low}

@@ -13,8 +13,8 @@ use Rattle.rules.specs.PlanCheck.{degree}
 use Rattle.plan.specs.Ends.{Joined, AtMostThree, Slots, no-section}
 use Rattle.plan.proofs.Counting.{Counted, count-reaches}
 use Rattle.plan.proofs.SlotTable.{slot-holds}
-use Rattle.bounds.specs.Tables.{Arrived}
-use Rattle.bounds.proofs.ThreeSlots.{ascending}
+use Rattle.turns.specs.Tables.{Arrived}
+use Rattle.turns.proofs.ThreeSlots.{ascending}
 use Rattle.steps.specs.StepOver.{other-than}
 
 -- one of the two numbers is not c

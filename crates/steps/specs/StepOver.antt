@@ -11,7 +11,7 @@ use Rattle.rules.specs.Plan.{plan-of, of-sections, section-count, end-A, arriva
 use Rattle.rules.specs.Query.{query-of}
 use Rattle.rules.specs.Net.{no-distance}
 use Rattle.rules.specs.Trip.{Trip, Step, cost, trip-of}
-use Rattle.bounds.specs.Tables.{Passes, TurnTable, Arrived}
+use Rattle.turns.specs.Tables.{Passes, TurnTable, Arrived}
 use Rattle.steps.specs.declared.step.Train.{Train}
 use Rattle.steps.specs.Served.{Served}
 

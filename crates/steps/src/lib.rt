@@ -12,7 +12,7 @@ ghost use lib.ListN.{length as length-of};
 ghost use Rattle.rules.specs.Plan.{plan-of, of-sections, arrivals};
 ghost use Rattle.rules.specs.Query.{query-of};
 ghost use Rattle.rules.specs.Trip.{trip-of};
-ghost use Rattle.bounds.specs.Tables.{Tables};
+ghost use Rattle.turns.specs.Tables.{Tables};
 ghost use Rattle.steps.specs.StepTable.{StepTable};
 use fill::fill_rows;
 use serve::served;

@@ -4,7 +4,7 @@ ghost use lib.ListN.{length};
 ghost use Rattle.rules.specs.Plan.{of-sections, arrivals};
 ghost use Rattle.rules.proofs.Sound.{Sound};
 ghost use Rattle.train.specs.Asked.{query-asked};
-ghost use Rattle.bounds.specs.Tables.{Tables};
+ghost use Rattle.turns.specs.Tables.{Tables};
 ghost use Rattle.steps.specs.Listing.{Listing};
 use crate::ends::fill_ends;
 use crate::fill_steps;

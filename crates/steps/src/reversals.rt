@@ -6,10 +6,10 @@ ghost use lib.ListN.{length, take};
 ghost use Rattle.rules.specs.Plan.{plan-of, forbidden};
 ghost use Rattle.rules.specs.Query.{query-of};
 ghost use Rattle.rules.specs.Trip.{trip-of, reversals};
-ghost use Rattle.bounds.specs.Tables.{Passes, TurnTable};
+ghost use Rattle.turns.specs.Tables.{Passes, TurnTable};
 ghost use Rattle.steps.specs.Linked.{Link, Linked};
-use bounds::turn_table::is_forbidden;
 use plan::read::section_number;
+use turns::turn_table::is_forbidden;
 
 // 1 if the step from arrival a to arrival b is a reversal, else 0.
 fn reversal(sections: &[u32], turns: &[u32], table: &[u32; 1536], a: u32, b: u32) -> u32

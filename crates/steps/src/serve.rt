@@ -3,7 +3,7 @@ ghost use mathlib.Core.Path.{_≡_};
 ghost use mathlib.Core.Bool.{_||_};
 ghost use Prim.Native.Nat.{ℕ, _<_};
 ghost use Rattle.rules.specs.Plan.{plan-of, turn-count, turn-point};
-ghost use Rattle.bounds.specs.Tables.{Tables};
+ghost use Rattle.turns.specs.Tables.{Tables};
 ghost use Rattle.steps.specs.Served.{TurnServed, Served};
 ghost use Rattle.steps.specs.StepOver.{may-enter};
 use crate::step::Train;

@@ -2,13 +2,13 @@
 ghost use mathlib.Core.Path.{_≡_};
 ghost use Prim.Native.Nat.{ℕ, _<_};
 ghost use Rattle.steps.specs.StepOver.{trip, may-enter, StepTables, Meets, arrival-over, StepOver};
-use bounds::turn_table::is_forbidden;
 use plan::read::END_A;
 use plan::read::LENGTH;
 use plan::read::has_section;
 use plan::read::section_number;
 use plan::read::wide;
 use plan::section::is_free;
+use turns::turn_table::is_forbidden;
 
 // No arrival has this number.
 const NONE: u32 = 4294967295;

@@ -5,19 +5,11 @@ use borrow.Author.Needs.{needs}
 use Rattle.reversal.proofs.search_reversal.Statement.{statement}
 use Rattle.reversal.proofs.search_reversal.Tie as tie
 
-cut-for-requires : tie.Need-cut-for-requires
-cut-for-requires c κs = search needs
-
-slice-aggregate-first-pull-out : tie.Need-slice-aggregate-first-pull-out
-slice-aggregate-first-pull-out c = search needs
-
 first-pull-out-requires : tie.Need-first-pull-out-requires
 first-pull-out-requires c κs = search needs
 
 returns : tie.Need-returns
-returns c v = searched-reverses (c .before .first-pull-out .ensures v)
+returns c v = searched-reverses (c .first-pull-out .ensures v)
 
 pub search-reversal-spec : {M : Type 1} → statement M
-search-reversal-spec =
-    tie.close
-    (tie.spec cut-for-requires slice-aggregate-first-pull-out first-pull-out-requires returns)
+search-reversal-spec = tie.close (tie.spec first-pull-out-requires returns)

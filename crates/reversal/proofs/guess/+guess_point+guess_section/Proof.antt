@@ -2,7 +2,7 @@
 -- point's guess one more: a point hands on what it has left, a section one less.
 -- Assumes nothing.
 use native.Mathlib.Omega.{arith}
-use Rattle.bounds.proofs.Entering.{arrived-low}
+use Rattle.turns.proofs.Entering.{arrived-low}
 use Rattle.reversal.proofs.Glancing.{over-arrived, over-takes}
 use Rattle.reversal.proofs.Guessing.{guess-ended, guess-shut, guess-on, guess-slots}
 use Prim.Native.Nat.{ℕ, _+_, _<_}

@@ -4,7 +4,7 @@
 use mathlib.Core.Path.{refl}
 use Prim.Native.Nat.{_-_}
 use native.Mathlib.Omega.{arith}
-use Rattle.bounds.proofs.Checking.{says-no}
+use Rattle.rules.proofs.Tests.{says-no}
 use Rattle.reversal.proofs.Running.{Running, running-first, running-more, running-last}
 use Rattle.reversal.proofs.run.follow.Statement.{statement}
 use Rattle.reversal.proofs.run.follow.Tie as tie

@@ -4,8 +4,8 @@
 use mathlib.Core.Path.{refl}
 use Prim.Native.Nat.{_+_, _-_, _*_, _<_}
 use native.Mathlib.Omega.{arith}
-use Rattle.bounds.proofs.Checking.{says-no}
-use Rattle.bounds.proofs.Entering.{arrived-low}
+use Rattle.rules.proofs.Tests.{says-no}
+use Rattle.turns.proofs.Entering.{arrived-low}
 use Rattle.reversal.proofs.Running.{Running, running-first, running-more, running-last}
 use Rattle.reversal.proofs.run.runs_out.Statement.{statement}
 use Rattle.reversal.proofs.run.runs_out.Tie as tie

@@ -2,7 +2,7 @@
 -- Assumes nothing.
 use borrow.Author.Needs.{needs}
 use borrow.Author.Tests.{not-true}
-use Rattle.bounds.proofs.Entering.{passed-joined, passed-three}
+use Rattle.turns.proofs.Entering.{passed-joined, passed-three}
 use Rattle.search.proofs.Solving.{nothing-solved}
 use Rattle.search.proofs.solve.solve.Statement.{statement}
 use Rattle.search.proofs.solve.solve.Tie as tie

@@ -8,7 +8,7 @@ use borrow.Author.Needs.{needs}
 use lib.ListN.{length, getD}
 use Rattle.rules.specs.Net.{no-distance}
 use Rattle.rules.proofs.Lists.{any-default}
-use Rattle.bounds.proofs.Checking.{says-no}
+use Rattle.rules.proofs.Tests.{says-no}
 use Rattle.sheet.proofs.Silent.{none-anywhere}
 use Rattle.sheet.proofs.nothing.all_none.Statement.{statement}
 use Rattle.sheet.proofs.nothing.all_none.Tie as tie

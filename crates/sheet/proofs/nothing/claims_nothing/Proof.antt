@@ -3,8 +3,8 @@
 use lib.ListN.{length}
 use Rattle.rules.proofs.Sound.{sound}
 use Rattle.train.specs.Asked.{query-asked}
-use Rattle.bounds.proofs.Entering.{passed-joined, passed-three}
-use Rattle.bounds.proofs.Checking.{says-no}
+use Rattle.turns.proofs.Entering.{passed-joined, passed-three}
+use Rattle.rules.proofs.Tests.{says-no}
 use Rattle.sheet.proofs.Checking.{empty}
 use Rattle.sheet.proofs.Silent.{nothing-passes}
 use Rattle.sheet.proofs.nothing.claims_nothing.Statement.{statement}

@@ -5,7 +5,7 @@ use mathlib.Core.Path.{_≡_, refl, _∙_}
 use Prim.Native.Nat.{_-_}
 use native.Mathlib.Omega.{arith}
 use lib.ListN.{length as length-of}
-use Rattle.bounds.proofs.Entering.{passed-joined}
+use Rattle.turns.proofs.Entering.{passed-joined}
 use Rattle.steps.proofs.Filling.{Written, written-none, written-more, written-all}
 use Rattle.steps.proofs.fill.fill_rows.Statement.{statement}
 use Rattle.steps.proofs.fill.fill_rows.Tie as tie

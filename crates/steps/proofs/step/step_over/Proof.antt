@@ -1,7 +1,7 @@
 -- `step::step_over` meets its contract: each test that fails shuts the section; where all pass, the step is made.
 -- Assumes nothing.
 use native.Mathlib.Omega.{arith}
-use Rattle.bounds.proofs.Entering.{section-low}
+use Rattle.turns.proofs.Entering.{section-low}
 use Rattle.steps.proofs.Stepping.{p-low, is-section, is-entered, cost-low, no-such-section, not-entered, runs-on, pulls-out, no-pull-out}
 use borrow.Author.Needs.{needs}
 use Rattle.steps.proofs.step.step_over.Statement.{statement}
