@@ -8,7 +8,7 @@ PULL_OUTS = "pull-outs, and the reversals that they serve"
 PARTS = [
     ("plan check, with who meets where and the turn of each point", r"plan::|.*after plan::"),
     ("train, start, finish", r"train::"),
-    (STEPS, r"(steps|bounds|cut|pullout|reversal)::|.*after (bounds|cut|pullout|reversal)::"),
+    (STEPS, r"(steps|turns|lessons|tries|reversal)::|.*after (turns|lessons|tries|reversal)::"),
     ("labels", r"distance::"),
     ("check of the labels, route", r"search::solve"),
     ("writing, a sheet's rules", r""),
