@@ -75,7 +75,7 @@ pub record Placed (h p most : ℕ) (ws b : List ℕ) (i : ℕ) (m : List ℕ) : 
   pub reasons : (k : ℕ) → kept m (i + 1) words k ≡ member ws k
   pub others : (k : ℕ) → k ≢ 101 * p → (k < i) ⊎ (i + 25 ≤ k) → getD m k 0 ≡ getD b k 0
 
--- the table b is m after a lesson was to be kept: left as it was, or with the lesson in one of the four places of p
+-- a lesson was to be kept in the table b, which is m then: as it was, or with the lesson in one of the four places of p
 pub data Wrote (h p most : ℕ) (ws b m : List ℕ) : Type 0 where
   left-out : m ≡ b → Wrote h p most ws b m
   put-in : (j : ℕ) → j < 4 → length m ≡ length b → Placed h p most ws b (place p j) m → Wrote h p most ws b m

@@ -1,4 +1,4 @@
--- The marks of a try, point by point, whatever it keeps them in. No contract speaks of them but through `marked`.
+-- The marks of a try, point by point: how it begins, and how it goes on.
 -- Assumes nothing.
 use mathlib.Core.Path.{_≡_}
 use mathlib.Core.Bool.{Bool, not}

@@ -9,8 +9,8 @@ use plan::section::is_free;
 use points::has;
 use turns::enter::may_enter;
 
-// No train gets further over it than this, or, as this point has a mark, than that; the last; or one to go on over, to this far
-// point, of this length.
+// Shut: no train gets further on it than this length. Met: its far point is this one, which has a mark, so none gets further than its
+// length. Last: it takes what is left. On: the train goes on to this far point, over this length.
 pub enum Look {
     Shut(u32),
     Met(u32, u32),
