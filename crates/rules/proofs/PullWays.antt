@@ -84,10 +84,10 @@ module _ {y : Plan} {may may_pull : ℕ → Bool} where
       → PullOut y may_pull r c p s qs → Way y may r c p marks qs
   clauses_way [] us g t = let z = t.one_or_more in absurd (omega arith)
   clauses_way {r} {p} (q ∷ []) us g t = let e : r ≤ free_from y q p = omega (arith, t.enough) in last (pull_fits t (us q (at_head refl))) e
-  clauses_way {r} {p} {marks} (q ∷ j ∷ qs) us g t =
+  clauses_way {r = r} {p = p} {marks = marks} (q ∷ j ∷ qs) us g t =
       let h : len y q < r = omega (arith, t.short) in
       next (pull_fits t (us q (at_head refl))) (t.free q (at_head refl)) h (fails (marks (far y q p)) (beyond (far y q p) (at_head refl)))
-      (clauses_way (j ∷ qs) (λ k m. us k (in_Tail m)) fresh (pull_rest t))
+      (clauses_way {r = r - len y q} {c = q} {p = far y q p} {marks = mark (far y q p) marks} (j ∷ qs) (λ k m. us k (in_Tail m)) fresh (pull_rest t))
     where
       beyond : (k : ℕ) → Memᴰ k (entries y (far y q p) (j ∷ qs)) → T (marks k) → ⊥
       beyond k m o = distinct_head t.apart (Memᴰ.cast (sym (g k (in_Tail m) o)) m)

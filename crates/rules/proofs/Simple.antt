@@ -20,6 +20,7 @@ record Shorter (N : Net) (c d : ℕ) : Type 0 where
 module _ {N : Net} {n top : ℕ} (B : Bounded N n top) where
   -- from an arrival that a walk meets, a shorter walk leads on: what is left of it there
   shorter : {a c : ℕ} {bs : List ℕ} → Walk N a bs → Memᴰ c bs → Shorter N c (distance N a bs)
+  shorter (here _) m = elim m [ ]
   shorter (onward {bs = bs} s w) (Memᴰ.head e) = let p = B.positive s in record { rest = bs; walk = rw e w; less = rw e (omega arith) }
   shorter (onward s w) (Memᴰ.tail m) = let l = shorter w m in record { rest = l.rest; walk = l.walk; less = let h = l.less in omega arith }
 
@@ -36,13 +37,14 @@ module _ {N : Net} {n top : ℕ} (B : Bounded N n top) where
   simple [] h = cons (no_return h) nil
   simple (b ∷ bs) h = cons (no_return h) (simple bs (shortest_tail h))
 
-  inside : {a : ℕ} {bs : List ℕ} → a < n → Walk N a bs → Below n (a ∷ bs)
-  inside l w k (Memᴰ.head e) = rw e l
-  inside l (onward s w) k (Memᴰ.tail m) = inside (B.to s) w k m
+  inside : (k : ℕ) {a : ℕ} {bs : List ℕ} → a < n → Walk N a bs → Memᴰ k (a ∷ bs) → k < n
+  inside k l w (Memᴰ.head e) = rw e l
+  inside k l (here _) (Memᴰ.tail m) = elim m [ ]
+  inside k l (onward s w) (Memᴰ.tail m) = inside k (B.to s) w m
 
   -- its arrivals with the start are different numbers below n
   pub few_steps : {a : ℕ} (bs : List ℕ) → a < n → Shortest N a bs → length bs < n
-  few_steps bs l h = pigeonhole n (simple bs h) (inside l h.walk)
+  few_steps bs l h = pigeonhole n (simple bs h) (λ k m. inside k l h.walk m)
 
   -- each step costs at most top
   pub at_most_steps : {a : ℕ} {bs : List ℕ} → Walk N a bs → distance N a bs ≤ length bs * top + N.room

@@ -144,6 +144,7 @@ all_hold [] = true
 all_hold (c ∷ cs) = holds c && all_hold cs
 
 all_right : (cs : List Case) → T (all_hold cs) → (c : Case) → Memᴰ c cs → Right c
+all_right [] t c m = elim m [ ]
 all_right (d ∷ cs) t c (Memᴰ.head e) = rw e (right d (and_T (holds d) (all_hold cs) t).0)
 all_right (d ∷ cs) t c (Memᴰ.tail m) = all_right cs (and_T (holds d) (all_hold cs) t).1 c m
 
