@@ -13,6 +13,8 @@
 // out at most 1 + 2,047 / c times; measured, once, but for one in a hundred. It is never more than 2,048 times, so that the limit of
 // 2,048 * 2,048 does not cut the worklist short. Empty rings are passed over, one for each 2,048 decimetres of the greatest distance, and
 // that is at most 220,000. Were the labels not settled then, sweeps would go on, and end after as many as there are arrivals.
+#![tactic(auto)]
+
 mod label;
 mod queue;
 mod sweep;

@@ -1,4 +1,6 @@
 // The C ABI: thin entries over the crates below, on numbers and slices. include/finder.h declares them.
+#![tactic(auto)]
+
 ghost use Rattle.std.specs.Prelude.{◌≡◌};
 ghost use Rattle.rules.specs.Plan.{plan_of};
 ghost use Rattle.rules.specs.PlanCheck.{plan_checks};

@@ -2,6 +2,8 @@
 // lessons was of use last, and four lessons, each a head and the words of its reasons. The head has the section that the train came
 // over, how many words the reasons have, and how far it gets at most. A point whose row is not wholly inside has no lessons, so that a
 // table of any length will do.
+#![tactic(auto)]
+
 mod lesson;
 
 ghost use Rattle.std.specs.Prelude.{◌<◌};

@@ -1,4 +1,6 @@
 // The plan check, refusals 1 to 6, and the readers of a section's and a turn's numbers.
+#![tactic(auto)]
+
 pub mod degree;
 mod doubled;
 mod own_rule;

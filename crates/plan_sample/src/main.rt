@@ -1,4 +1,6 @@
 // Checks sample plans, and says of each that it passed or which refusal it got and where.
+#![tactic(auto)]
+
 ghost use Rattle.std.specs.Prelude.{◌<◌};
 
 use libc::STDOUT_FILENO;

@@ -1,4 +1,6 @@
 // Sets of points: one bit for each of the 768 points, in 24 words of 32. What other crates know of a set is its members.
+#![tactic(auto)]
+
 ghost use Rattle.std.specs.Prelude.{◌≡◌, true, ◌+◌, ◌≤◌, ◌<◌, length};
 ghost use Rattle.points.specs.Points.{Whole, member, Empty, Put, Taken, Added, Narrow, Among, kept, Loaded, Saved};
 

@@ -1,4 +1,6 @@
 // The pull-out of one reversal: refusals 1 to 7, 15, 16 and 14, and the first pull-out.
+#![tactic(auto)]
+
 mod asked;
 pub mod copy;
 mod find;

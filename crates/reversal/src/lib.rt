@@ -1,5 +1,7 @@
 // Whether a train can reverse: whether there is any pull-out for one turn. Mostly it runs straight on; else a guess is made
 // and checked, and where it fails the search for the first pull-out decides.
+#![tactic(auto)]
+
 mod glance;
 mod guess;
 mod run;

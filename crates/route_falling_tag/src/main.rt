@@ -1,4 +1,6 @@
 // Runs the route program on a turn after a query.
+#![tactic(auto)]
+
 fn main() {
     route_run::run();
 }

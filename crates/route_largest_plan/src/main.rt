@@ -1,4 +1,6 @@
 // Runs the route program on the largest plan.
+#![tactic(auto)]
+
 fn main() {
     route_run::run();
 }

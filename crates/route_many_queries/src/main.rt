@@ -1,4 +1,6 @@
 // Runs the route program on 256 queries.
+#![tactic(auto)]
+
 fn main() {
     route_run::run();
 }

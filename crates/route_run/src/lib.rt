@@ -1,5 +1,7 @@
 // The route program: a yard file in, document 01's lines out. What stands in the lines comes from the proved crates; how they are
 // written is compared with stored outputs.
+#![tactic(auto)]
+
 mod line;
 mod query;
 

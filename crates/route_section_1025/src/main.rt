@@ -1,4 +1,6 @@
 // Runs the route program on 1,025 sections.
+#![tactic(auto)]
+
 fn main() {
     route_run::run();
 }

@@ -10,6 +10,8 @@
 //   (never-13).
 // - With a walk and with number 12 each label is the remaining distance of its arrival, or "none" (labels-right). All else that was
 //   lent is as it was: the rest of the route buffer with a walk, the whole of it with 12, and both buffers with every other refusal.
+#![tactic(auto)]
+
 mod solve;
 mod write;
 

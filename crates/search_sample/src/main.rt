@@ -1,4 +1,6 @@
 // Searches sample yards, and says of each query the walk that was found or which refusal it got and where.
+#![tactic(auto)]
+
 mod yards;
 
 ghost use Rattle.std.specs.Prelude.{◌<◌};

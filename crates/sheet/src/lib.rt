@@ -5,6 +5,8 @@
 // remaining distances with any shortest walk, or with "no route" where there is none, with the walk's own numbers as the answer. Both
 // halves follow from the contract of `check_sheet`: proofs/Demand.antt has them as `accepted_is_shortest` and `accepted_no_route`,
 // `shortest_is_accepted` and `no_route_is_accepted`. So the search's own answer is accepted (`search_is_accepted`).
+#![tactic(auto)]
+
 mod claim;
 mod nothing;
 mod rule;

@@ -1,4 +1,6 @@
 // Checks sample sheets of yard Y, right and wrong ones, and says of each that it was accepted or which refusal it got and where.
+#![tactic(auto)]
+
 ghost use Rattle.std.specs.Prelude.{◌<◌};
 
 use libc::STDOUT_FILENO;

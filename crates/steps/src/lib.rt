@@ -1,4 +1,6 @@
 // Every admissible step of a query's train as a plain table, the arrivals at which a walk may end, and the reversals of a walk.
+#![tactic(auto)]
+
 pub mod ends;
 mod fill;
 pub mod listing;

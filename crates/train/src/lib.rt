@@ -1,4 +1,6 @@
 // The train, its start and its finish: refusals 7 to 10, and what a walk takes from them. Every function takes any numbers.
+#![tactic(auto)]
+
 pub mod place;
 pub mod room;
 

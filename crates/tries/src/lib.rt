@@ -1,4 +1,6 @@
 // The search for the first pull-out of one turn, which learns from its failures.
+#![tactic(auto)]
+
 mod look;
 mod marks;
 mod search;

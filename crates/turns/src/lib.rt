@@ -1,3 +1,5 @@
 // What a search for a pull-out reads besides the plan: the forbidden turn of each point, and which section may be entered there.
+#![tactic(auto)]
+
 pub mod enter;
 pub mod turn_table;

@@ -1,4 +1,6 @@
 // The reader of yard files: numbers 20 and 14, and the tables that a file holds.
+#![tactic(auto)]
+
 mod bytes;
 mod layout;
 pub mod reader;
