@@ -4,4 +4,4 @@ use Rattle.points.proofs.Members.{read}
 use Rattle.points.proofs.has.Goals as goal
 
 pub returns : goal.returns
-returns c = let a = c.args in read a.word-1s.now a.p c.wide.ensures.0
+returns c = let a = c.args in read a.words.now a.p c.wide.ensures.0

@@ -4,4 +4,4 @@ use Rattle.points.proofs.Keeping.{among}
 use Rattle.points.proofs.has_kept.Goals as goal
 
 pub returns : goal.returns
-returns c = λ _. let a = c.args in among a.table.now a.word-1s.now a.at (omega arith) c.loop-i.invariant.1
+returns c = λ _. let a = c.args in among a.table.now a.words.now a.at (omega arith) c.loop-i.invariant.1
