@@ -21,7 +21,7 @@ use yardfile::Read;
 
 // The five numbers of an answer.
 #[repr(C)]
-#[derive(Drop)]
+#[derive(Clone, Copy)]
 pub struct Answer {
     pub refusal: u32,
     pub place: u32,
@@ -32,7 +32,7 @@ pub struct Answer {
 
 // The three numbers of a pull-out.
 #[repr(C)]
-#[derive(Drop)]
+#[derive(Clone, Copy)]
 pub struct Pull {
     pub refusal: u32,
     pub place: u32,
@@ -41,7 +41,7 @@ pub struct Pull {
 
 // The six numbers of a yard file.
 #[repr(C)]
-#[derive(Drop)]
+#[derive(Clone, Copy)]
 pub struct Yard {
     pub refusal: u32,
     pub place: u32,

@@ -28,7 +28,7 @@ use tables::tables_good;
 use turn::first_bad_turn;
 
 // What the check of a plan finds: nothing, or a refusal's number and place.
-#[derive(Drop)]
+#[derive(Clone, Copy)]
 pub enum Checked {
     Passed,
     Refused(u32, u32),

@@ -22,7 +22,7 @@ use train::train_good;
 use turns::turn_table::turn_table;
 
 // What is answered: how many sections were written, or a refusal's number and place.
-#[derive(Drop)]
+#[derive(Clone, Copy)]
 pub enum Pulled {
     Found(u32),
     Refused(u32, u32),

@@ -7,7 +7,7 @@ use plan::section::{far_end, free_from, is_free};
 use turns::enter::may_enter;
 
 // Not to be entered; the last; or one to go on over, to this far point, where this length is then left.
-#[derive(Drop)]
+#[derive(Clone, Copy)]
 pub enum Ahead {
     Shut,
     Last,

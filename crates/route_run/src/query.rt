@@ -40,7 +40,7 @@ fn answer(routed: Routed, route: &[u32]) {
 }
 
 // What a query asks: the train's length, its start and end, its finish and end.
-#[derive(Drop)]
+#[derive(Clone, Copy)]
 struct Query {
     length: u32,
     start: u32,

@@ -34,7 +34,7 @@ use turns::turn_table::turn_table;
 use write::write_answer;
 
 // What is answered: a walk's total, reversals and steps, or a refusal's number and place.
-#[derive(Drop)]
+#[derive(Clone, Copy)]
 pub enum Routed {
     Found(u32, u32, u32),
     Refused(u32, u32),

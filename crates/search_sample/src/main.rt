@@ -31,7 +31,7 @@ fn numbers(list: &[u32], n: usize) {
 }
 
 // What is asked of a yard: the train's length, the start and its end, the finish and its end.
-#[derive(Drop)]
+#[derive(Clone, Copy)]
 struct Query {
     length: u32,
     start: u32,

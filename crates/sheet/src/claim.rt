@@ -14,7 +14,7 @@ use plan::read::wide;
 use rules::NO_DISTANCE;
 
 // What the start label has to be, if the claim and the list go together.
-#[derive(Drop)]
+#[derive(Clone, Copy)]
 pub enum Due {
     Nothing,
     Label(usize),

@@ -34,7 +34,7 @@ use train::{Asked, check_train};
 use turns::turn_table::turn_table;
 
 // What is answered: an accepted list's total, reversals and steps (zeros for "no route"), or a refusal's number and place.
-#[derive(Drop)]
+#[derive(Clone, Copy)]
 pub enum Judged {
     Accepted(u32, u32, u32),
     Refused(u32, u32),

@@ -9,7 +9,7 @@ use plan::read::wide;
 use rules::NO_DISTANCE;
 
 // What is found of a list: it is no walk, or its steps cost so much.
-#[derive(Drop)]
+#[derive(Clone, Copy)]
 pub enum Followed {
     Off,
     Costs(u32),

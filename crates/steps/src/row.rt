@@ -9,7 +9,7 @@ use plan::read::section_number;
 use plan::slots::slot_at;
 
 // At most two, since a point has at most three sections.
-#[derive(Drop)]
+#[derive(Clone, Copy)]
 pub struct Row {
     pub first: Step,
     pub second: Step,

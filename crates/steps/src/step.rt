@@ -10,7 +10,7 @@ use turns::turn_table::is_forbidden;
 const NONE: u32 = 4294967295;
 
 // A train: its length, the section that it leaves and the section that it enters.
-#[derive(Drop)]
+#[derive(Clone, Copy)]
 pub struct Train {
     pub length: u32,
     pub start: u32,
@@ -18,7 +18,7 @@ pub struct Train {
 }
 
 // The arrival to which it leads and its cost, or "none" and 0.
-#[derive(Drop)]
+#[derive(Clone, Copy)]
 pub struct Step {
     pub next: u32,
     pub cost: u32,

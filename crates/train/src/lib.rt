@@ -16,7 +16,7 @@ use crate::room::finish_room;
 use plan::Checked;
 
 // What is asked of a search or of a sheet, besides the tables of the plan.
-#[derive(Drop)]
+#[derive(Clone, Copy)]
 pub struct Asked {
     pub points: u32,
     pub length: u32,

@@ -10,7 +10,7 @@ use turns::enter::may_enter;
 
 // Shut: no train gets further on it than this length. Met: its far point is this one, which has a mark, so none gets further than its
 // length. Last: it takes what is left. On: the train goes on to this far point, over this length.
-#[derive(Drop)]
+#[derive(Clone, Copy)]
 pub enum Look {
     Shut(u32),
     Met(u32, u32),

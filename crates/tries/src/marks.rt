@@ -4,7 +4,7 @@ ghost use Rattle.tries.specs.Marks.{Begun};
 
 use points::{no_points, put};
 
-#[derive(Drop)]
+#[derive(Clone, Copy)]
 pub struct Try {
     pub(crate) marks: [u32; 24],
     pub left: u32,

@@ -6,7 +6,7 @@ ghost use Rattle.tries.specs.Fails.{Passed};
 
 use points::{add, take};
 
-#[derive(Drop)]
+#[derive(Clone, Copy)]
 pub struct Told {
     pub at: usize,
     pub most: u32,

@@ -17,14 +17,14 @@ use rows::put_rows;
 use run::{Run, run_from};
 
 // What is answered: the points and how many sections, turns and queries were written, or a refusal's number and place.
-#[derive(Drop)]
+#[derive(Clone, Copy)]
 pub enum Read {
     Yard(u32, u32, u32, u32),
     Refused(u32, u32),
 }
 
 // The three runs that follow the field of tag 1.
-#[derive(Drop)]
+#[derive(Clone, Copy)]
 pub struct Parts {
     pub sections: Run,
     pub turns: Run,
@@ -32,7 +32,7 @@ pub struct Parts {
 }
 
 // A file: the byte at which its first faulty field begins, or its runs.
-#[derive(Drop)]
+#[derive(Clone, Copy)]
 pub enum Surveyed {
     Fault(u32),
     Fine(Parts),

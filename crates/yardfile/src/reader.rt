@@ -5,14 +5,14 @@ ghost use Rattle.yardfile.specs.Field.{field_at};
 use crate::bytes::{two_bytes, wide};
 
 // A file and the byte in it at which the next field begins.
-#[derive(Drop)]
+#[derive(Clone, Copy)]
 pub struct Reader<'a> {
     pub file: &'a [u8],
     pub at: usize,
 }
 
 // A field: the file ends before it does, or its tag and its length.
-#[derive(Drop)]
+#[derive(Clone, Copy)]
 pub enum Field {
     Cut,
     Whole(u8, usize),

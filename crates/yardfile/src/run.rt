@@ -5,7 +5,7 @@ use crate::layout::{field_bytes, most};
 use crate::reader::{Field, field_from};
 
 // How many fields a run has, and the byte after it.
-#[derive(Drop)]
+#[derive(Clone, Copy)]
 pub struct Run {
     pub count: u32,
     pub end: usize,
