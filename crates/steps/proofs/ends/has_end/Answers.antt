@@ -1,0 +1,14 @@
+-- `ends::has_end` meets its contract: where nothing stands in the second slot of the finish point, only the finish is there.
+-- Assumes nothing.
+use mathlib.Core.Path.{refl, sym, ◌∙◌}
+use borrow.Author.Tests.{not-false}
+use lib.Dec.{eqb, eqb→eq}
+use Rattle.rules.proofs.Tests.{says_true}
+use Rattle.steps.proofs.NoEnds.{none_other}
+use Rattle.steps.proofs.ends.has_end.Goals as goal
+
+pub returns : goal.returns
+returns c =
+    λ z v ts l x e a w. none_other c.requires.0 c.args.finish c.args.enter c.requires.1 c.requires.2 c.section_number-goal.ensures
+    c.slot_at.ensures (eqb→eq c.slot_at.result 4294967295 (says_true (eqb c.slot_at.result 4294967295) (not-false (eqb c.slot_at.result 4294967295) z) refl))
+    a w.inside (w.point ∙ sym c.section_number-goal.ensures) w.over
