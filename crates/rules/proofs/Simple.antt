@@ -8,7 +8,7 @@ use native.Mathlib.Omega.{arith}
 use lib.ListN.{length}
 use Rattle.rules.specs.Ranges.{Distinct, nil, cons}
 use Rattle.rules.specs.Net.{no_distance, Net, Walk, here, onward, distance, Shortest}
-use Rattle.rules.proofs.Pigeon.{Below, pigeonhole}
+use Rattle.rules.proofs.Pigeon.{pigeonhole}
 use Rattle.rules.proofs.Walks.{Bounded, shortest_tail}
 
 -- a walk from c that is shorter than d

@@ -8,7 +8,7 @@ use Prim.Native.Nat.{ℕ, ◌+◌, ◌*◌, ◌≤◌, ◌<◌}
 use native.Mathlib.Omega.{arith}
 use lib.Dec.{T}
 use lib.ListN.{get_or}
-use Rattle.rules.specs.Plan.{plan_of, len, far}
+use Rattle.rules.specs.Plan.{plan_of, len}
 use Rattle.rules.specs.PullOut.{any_section}
 use Rattle.rules.proofs.Ways.{may_use, mark, Way, last, next, free_whole, way_onward, fewer_marks}
 use Rattle.turns.specs.Tables.{Passes, Tables, Arrived}

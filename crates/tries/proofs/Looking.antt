@@ -6,7 +6,7 @@ use mathlib.Core.List.{List, [], ◌∷◌}
 use Prim.Native.Nat.{ℕ, ◌≤◌, ◌<◌}
 use native.Mathlib.Omega.{arith}
 use borrow.Author.Tests.{not-true, not-false}
-use lib.Dec.{T, eqb_refl, eqb→eq}
+use lib.Dec.{eqb_refl, eqb→eq}
 use Rattle.rules.specs.Plan.{plan_of, is_free, far, free_from}
 use Rattle.rules.specs.PullOut.{any_section}
 use Rattle.rules.proofs.Tests.{clash, says_true, says_false}

@@ -1,4 +1,3 @@
-use Prim.Native.Nat.{◌-◌}
 use native.Mathlib.Omega.{arith}
 use Rattle.points.proofs.Words.{added}
 use Rattle.points.proofs.add.Goals as goal

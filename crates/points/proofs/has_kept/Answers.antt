@@ -1,4 +1,3 @@
-use Prim.Native.Nat.{◌-◌}
 use native.Mathlib.Omega.{arith}
 use Rattle.points.proofs.Keeping.{among}
 use Rattle.points.proofs.has_kept.Goals as goal

@@ -1,4 +1,3 @@
-use Prim.Native.Nat.{◌-◌}
 use native.Mathlib.Omega.{arith}
 use Rattle.points.proofs.Keeping.{loaded}
 use Rattle.points.proofs.load.Goals as goal

@@ -1,4 +1,3 @@
-use Prim.Native.Nat.{◌-◌}
 use Rattle.plan.proofs.Counts.{counts_none, first_fits, second_fits, counts_more}
 use Rattle.plan.proofs.degree.degrees.Goals as goal
 

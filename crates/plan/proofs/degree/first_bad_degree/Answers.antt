@@ -1,4 +1,3 @@
-use Prim.Native.Nat.{◌-◌}
 use Rattle.plan.proofs.Looking.{found, not_found}
 use Rattle.plan.proofs.degree.first_bad_degree.Goals as goal
 

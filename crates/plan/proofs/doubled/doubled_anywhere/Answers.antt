@@ -1,4 +1,3 @@
-use Prim.Native.Nat.{◌-◌}
 use Rattle.plan.proofs.Looking.{some_found, none_found}
 use Rattle.plan.proofs.doubled.doubled_anywhere.Goals as goal
 

@@ -1,4 +1,3 @@
-use Prim.Native.Nat.{◌-◌}
 use native.Mathlib.Omega.{arith}
 use Rattle.plan.proofs.Nearby.{slot_inside, nothing_nearby, twin_nearby, looked_more}
 use Rattle.plan.proofs.doubled.doubled_nearby.Goals as goal

@@ -1,4 +1,3 @@
-use Prim.Native.Nat.{◌-◌}
 use Rattle.plan.proofs.Looking.{found, not_found}
 use Rattle.plan.proofs.doubled.first_doubled_nearby.Goals as goal
 

@@ -1,4 +1,3 @@
-use Prim.Native.Nat.{◌-◌}
 use Rattle.plan.proofs.Looking.{sought_more, found, not_found, below_end, past_end}
 use Rattle.plan.proofs.own_rule.first_bad_section.Goals as goal
 

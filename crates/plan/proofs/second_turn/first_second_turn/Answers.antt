@@ -1,5 +1,4 @@
 use mathlib.Core.Path.{◌∙◌}
-use Prim.Native.Nat.{◌-◌}
 use Rattle.plan.proofs.Looking.{not_found}
 use Rattle.plan.proofs.PointMarks.{marked_none, second_found, marked_more}
 use Rattle.plan.proofs.second_turn.first_second_turn.Goals as goal

@@ -1,4 +1,3 @@
-use Prim.Native.Nat.{◌-◌}
 use Rattle.plan.proofs.SlotTable.{held_none, held_all, first_room, second_room, held_more}
 use Rattle.plan.proofs.slots.index_into.Goals as goal
 

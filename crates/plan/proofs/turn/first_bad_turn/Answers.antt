@@ -1,4 +1,3 @@
-use Prim.Native.Nat.{◌-◌}
 use Rattle.plan.proofs.Looking.{sought_more, found, not_found}
 use Rattle.plan.proofs.turn.first_bad_turn.Goals as goal
 

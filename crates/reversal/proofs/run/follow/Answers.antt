@@ -1,5 +1,4 @@
 use mathlib.Core.Path.{refl}
-use Prim.Native.Nat.{◌-◌}
 use native.Mathlib.Omega.{arith}
 use Rattle.reversal.proofs.Running.{running_first, running_more, running_last}
 use Rattle.reversal.proofs.run.follow.Goals as goal

@@ -10,7 +10,6 @@ use Rattle.tries.proofs.Marking.{past}
 use Rattle.tries.proofs.Going.{on_low, on_arrived, from_there, to_there, point_found}
 use Rattle.tries.proofs.Trying.{over_last, over_missed, over_found, missed}
 use Rattle.tries.proofs.Failing.{beyond_fails, point_vain, fails_from, fails_more, fails_vain, fails_all, recalled_fails}
-use Prim.Native.Nat.{◌-◌}
 use Rattle.tries.proofs.search.+try_point_try_section.Goals as goal
 
 pub try_point-returns-then-known-lt-NOTHING : goal.try_point-returns-then-known-lt-NOTHING

@@ -1,4 +1,3 @@
-use Prim.Native.Nat.{◌-◌}
 use Rattle.turns.proofs.TurnsByPoint.{filled_none, filled_all, filled_more}
 use Rattle.turns.proofs.turn_table.turn_table.Goals as goal
 
