@@ -10,8 +10,8 @@ import re
 import subprocess
 
 ROOT = pathlib.Path(__file__).resolve().parent.parent
-OUT = ROOT / "target/bench"
-LIBRARY = "target/staticlib/libfinder.a"
+OUT = ROOT / "out/bench"
+LIBRARY = "crates/finder/out/libfinder.a"
 # A program lies where nm tells, and its calls of the C library are bound when it starts, so that no call counted pays for it.
 FLAGS = ["-std=c++20", "-O2", "-g", "-no-pie", "-Wl,-z,now", "-pthread", "-Wall", "-Wextra", "-Werror", "-Iinclude"]
 NATIVE = platform.machine() == "x86_64"
@@ -20,17 +20,15 @@ NATIVE = platform.machine() == "x86_64"
 VECTOR_FILLS = {"GLIBC_TUNABLES": "glibc.cpu.hwcaps=-ERMS,-FSRM"}
 
 
-def run(*words, **options):
-    return subprocess.run([str(word) for word in words], check=True, cwd=ROOT, text=True, **options)
+def run(*words, cwd=ROOT, **options):
+    return subprocess.run([str(word) for word in words], check=True, cwd=cwd, text=True, **options)
 
 
 def emulator(*settings):
     """The words before a program's name: none on x86-64."""
     if NATIVE:
         return []
-    kit = pathlib.Path(run("rt", "doc", capture_output=True).stdout.strip()).parent.parent
-    qemu = kit / "on" / platform.machine() / "toolchain/bin/qemu-x86_64"
-    return [qemu, "-cpu", "max,-erms,-fsrm", *settings, "-L", "/usr/x86_64-linux-gnu"]
+    return ["qemu-x86_64", "-cpu", "max,-erms,-fsrm", *settings, "-L", "/usr/x86_64-linux-gnu"]
 
 
 def words_asked(usage, *options):
@@ -45,7 +43,7 @@ def words_asked(usage, *options):
 def build_library(asked):
     """Unless the library is asked for as it was last built."""
     if not asked.as_built:
-        run("rt", "staticlib", "finder", capture_output=True)
+        run("rt", "lib", cwd=ROOT / "crates/finder", capture_output=True)
 
 
 def compiled(source, *flags):

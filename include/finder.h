@@ -93,7 +93,7 @@ extern "C" {
 #define FINDER_QUERIES_LEN(queries) (FINDER_QUERY_WIDTH * (queries))
 /* How many entries the label buffer has for a plan of so many sections: exactly so many. */
 #define FINDER_LABELS_LEN(sections) (2 * (sections))
-/* How many entries of a route buffer are always enough for a plan of so many sections (theorem few-steps in
+/* How many entries of a route buffer are always enough for a plan of so many sections (theorem few_steps in
  * crates/rules/proofs/Simple.antt: a shortest walk has fewer steps than there are arrivals). */
 #define FINDER_ROUTE_LEN(sections) (2 * (sections))
 /* How many entries of a list are always enough for a pull-out in a plan of so many points. */
@@ -146,7 +146,7 @@ typedef struct {
  * Afterwards: nothing is written. A plan that passes gets zeros throughout.
  * The time grows linearly with the number of sections where no point has more than three.
  * Proved: the answer is an equation, the first of the checks 1 to 6 that fails, at its lowest place, for all numbers and all table
- * lengths (finder_check_plan's contract in crates/finder/src/lib.rt; definition plan-checks in crates/rules/specs/PlanCheck.antt). */
+ * lengths (finder_check_plan's contract in crates/finder/src/lib.rt; definition plan_checks in crates/rules/specs/PlanCheck.antt). */
 finder_answer finder_check_plan(uint32_t points, const uint32_t *sections, size_t sections_len, const uint32_t *turns,
                                 size_t turns_len);
 
@@ -177,10 +177,10 @@ finder_answer finder_check_plan(uint32_t points, const uint32_t *sections, size_
  *   all others  both buffers are kept
  * It looks for pull-outs and takes up to 0.87 MB of stack; what holds of finder_pull_out's time holds here too, docs/LIMITS.md.
  * Proved, with finder_search's contract in crates/finder/src/lib.rt, in crates/rules/proofs:
- *   a walk handed out is admissible, none is shorter, and among equals it is the first by section numbers (handed-out-walk,
- *   handed-out-shortest, handed-out-first); total, reversals and steps are its own (handed-out-numbers); 12 is given exactly when 1 to 11
- *   are not and no admissible walk exists (twelve-none, none-twelve); the labels are the remaining distances (labels-right); 13 is never
- *   given (never-13); the answer and every entry of both buffers are determined (answer-unique). */
+ *   a walk handed out is admissible, none is shorter, and among equals it is the first by section numbers (handed_out_walk,
+ *   handed_out_shortest, handed_out_first); total, reversals and steps are its own (handed_out_numbers); 12 is given exactly when 1 to 11
+ *   are not and no admissible walk exists (twelve_none, none_twelve); the labels are the remaining distances (labels_right); 13 is never
+ *   given (never_13); the answer and every entry of both buffers are determined (answer_unique). */
 finder_answer finder_search(uint32_t points, const uint32_t *sections, size_t sections_len, const uint32_t *turns,
                             size_t turns_len, uint32_t length, uint32_t start, uint32_t start_end, uint32_t finish,
                             uint32_t finish_end, uint32_t *route, size_t route_len, uint32_t *labels,
@@ -212,7 +212,7 @@ typedef struct {
  * It takes up to 0.79 MB of stack, and on some plans its time is not bounded by anything useful: docs/LIMITS.md.
  * Proved: what is found is a pull-out and the first one; 16 is given exactly when 1 to 7 and 15 are not and there is none; the answer and
  * every entry of the list are determined (finder_pull_out's contract in crates/finder/src/lib.rt; definition PullAnswer in
- * crates/rules/specs/PullAnswer.antt; theorems first-pull-unique and pull-unique in crates/rules/proofs/PullAnswers.antt). */
+ * crates/rules/specs/PullAnswer.antt; theorems first_pull_unique and pull_unique in crates/rules/proofs/PullAnswers.antt). */
 finder_pull finder_pull_out(uint32_t points, const uint32_t *sections, size_t sections_len, const uint32_t *turns,
                             size_t turns_len, uint32_t length, uint32_t arrival, uint32_t section, uint32_t *list,
                             size_t list_len);
@@ -235,10 +235,10 @@ finder_pull finder_pull_out(uint32_t points, const uint32_t *sections, size_t se
  * Afterwards: nothing is written. An accepted walk gets its total, reversals and steps, an accepted "no route" zeros. No sum wraps.
  * It looks for pull-outs and takes up to 0.84 MB of stack; what holds of finder_pull_out's time holds here too, docs/LIMITS.md.
  * Proved, whoever wrote the sheet, with finder_check_sheet's contract in crates/finder/src/lib.rt, in crates/sheet/proofs/Demand.antt:
- *   an accepted list is a shortest admissible walk (accepted-is-shortest), and an accepted "no route" means that there is none
- *   (accepted-no-route); the remaining distances with any shortest walk (shortest-is-accepted), or with "no route" where there is none
- *   (no-route-is-accepted), are accepted, so what finder_search writes always is (search-is-accepted, search-without-route-is-accepted);
- *   the answer is determined (sheet-unique in crates/rules/proofs/SheetAnswers.antt). */
+ *   an accepted list is a shortest admissible walk (accepted_is_shortest), and an accepted "no route" means that there is none
+ *   (accepted_no_route); the remaining distances with any shortest walk (shortest_is_accepted), or with "no route" where there is none
+ *   (no_route_is_accepted), are accepted, so what finder_search writes always is (search_is_accepted, search_without_route_is_accepted);
+ *   the answer is determined (sheet_unique in crates/rules/proofs/SheetAnswers.antt). */
 finder_answer finder_check_sheet(uint32_t points, const uint32_t *sections, size_t sections_len, const uint32_t *turns,
                                  size_t turns_len, uint32_t length, uint32_t start, uint32_t start_end, uint32_t finish,
                                  uint32_t finish_end, uint32_t claim, const uint32_t *list, size_t list_len,
@@ -271,7 +271,7 @@ typedef struct {
  * points and the three counts of rows. A refused call keeps all three tables. Only the form is judged: a plan that was read may still be
  * refused by the other functions.
  * Proved: the answer and every entry of the tables are what the definition read in crates/rules/specs/YardFile.antt says
- * (finder_read_yard's contract in crates/finder/src/lib.rt; theorem answers-unique in crates/yardfile/proofs/Unique.antt). */
+ * (finder_read_yard's contract in crates/finder/src/lib.rt; theorem answers_unique in crates/yardfile/proofs/Unique.antt). */
 finder_yard finder_read_yard(const uint8_t *file, size_t file_len, uint32_t *sections, size_t sections_len,
                              uint32_t *turns, size_t turns_len, uint32_t *queries, size_t queries_len);
 

@@ -5,47 +5,47 @@
 -- Ranges: Tests over a range of numbers, and lists without repetition: the vocabulary in which the rules count, look and compare.
 --   between           low ≤ n ≤ high
 --   every             the test holds at each of the m numbers from i on
---   some-of           the test holds at one of the m numbers from i on
---   first-of          the lowest of the m numbers from i on at which the test holds, or i + m
---   count-of          at how many of the m numbers from i on the test holds
+--   some_of           the test holds at one of the m numbers from i on
+--   first_where       the lowest of the m numbers from i on at which the test holds, or i + m
+--   count_of          at how many of the m numbers from i on the test holds
 --   Distinct          no number occurs twice in the list
 --
 -- Plan: The track plan: its three parts, and the numbers of a section, of a turn and of an arrival.
 --   Plan              how many points there are (they are numbered from 0), the table of sections and the table of forbidden turns
---   plan-of           a plan from the three arguments by which the library's functions take it
---   of-sections       a plan of which nothing but the table of sections is read
+--   plan_of           a plan from the three arguments by which the library's functions take it
+--   of_sections       a plan of which nothing but the table of sections is read
 --   width             how many numbers a section has in its table
---   section-count     how many sections the table holds
---   turn-count        how many forbidden turns the table holds
+--   section_count     how many sections the table holds
+--   turn_count        how many forbidden turns the table holds
 --   field             number k of section s
---   end-A             the first of the six numbers: the point at end A
---   end-B             the point at end B
+--   end_A             the first of the six numbers: the point at end A
+--   end_B             the point at end B
 --   len               the length
 --   kind              the kind
---   free-A            the free length from end A
---   free-B            the free length from end B
---   end-at            the point at an end that is given by its number, 0 for A and 1 for B
---   free-at           the free length from the end with that number
+--   free_A            the free length from end A
+--   free_B            the free length from end B
+--   end_at            the point at an end that is given by its number, 0 for A and 1 for B
+--   free_at           the free length from the end with that number
 --   connecting        kind 0
 --   destination       kind 1
---   is-free           nothing stands on the section: the free length from either end is its whole length
---   is-locked         a locked section: no free length at either end
+--   is_free           nothing stands on the section: the free length from either end is its whole length
+--   is_locked         a locked section: no free length at either end
 --   touches           the point p is an end of section s
 --   far               the other end of a section that is entered at its end p
---   free-from         the free length of a section from its entry p
---   same-ends         sections s and r join the same two points
---   turn-section      the two sections of forbidden turn t (k is 0 or 1)
---   shared-point      a point that sections s and r share, where they share one
---   turn-point        the point of forbidden turn t
+--   free_from         the free length of a section from its entry p
+--   same_ends         sections s and r join the same two points
+--   turn_section      the two sections of forbidden turn t (k is 0 or 1)
+--   shared_point      a point that sections s and r share, where they share one
+--   turn_point        the point of forbidden turn t
 --   forbidden         the turn from section c to section s is forbidden; a turn holds both ways
 --   arrivals          how many arrivals there are: 2s comes over section s to its end A, 2s + 1 to its end B
---   to-point          the point to which an arrival comes
---   from-point        the point at the other end of its section, where a step to this arrival begins
+--   to_point          the point to which an arrival comes
+--   from_point        the point at the other end of its section, where a step to this arrival begins
 --   sec               the section of an arrival
 --
 -- Refusals: A refusal: its number, its place, and which one is given where several apply.
 --   Verdict           a refusal's number and place; the number 0 stands for "not refused"
---   refused-at        refused with number n at place p
+--   refused_at        refused with number n at place p
 --   passed            not refused
 --   Check             one row of the list of refusals: its number, how many places it is tested at, and where it applies
 --   once              a refusal whose place is always 0
@@ -53,36 +53,36 @@
 --   verdict           the first row that applies anywhere, at the lowest place where it does
 --
 -- PlanCheck: Which plans are refused: numbers 1 to 6.
---   tables-good       the counts are in range, and each table is made of whole rows
---   ground-good       what does not move: two different ends that are points, a length in range, one of the two kinds
---   stock-good        what stands there: the section is free, or its two free lengths leave some of it over
---   section-bad       the section breaks its own rule, which is these two together
+--   tables_good       the counts are in range, and each table is made of whole rows
+--   ground_good       what does not move: two different ends that are points, a length in range, one of the two kinds
+--   stock_good        what stands there: the section is free, or its two free lengths leave some of it over
+--   section_bad       the section breaks its own rule, which is these two together
 --   doubled           an earlier section joins the same two points
 --   degree            how many sections have point p for an end
---   degree-bad        the point has no section or over three
---   turn-bad          not two different connecting sections that share a point
---   second-turn       an earlier turn has the same point
---   plan-checks       1 to 6 in their order, 2 and 3 at sections, 4 at points, 5 and 6 at turns
+--   degree_bad        the point has no section or over three
+--   turn_bad          not two different connecting sections that share a point
+--   second_turn       an earlier turn has the same point
+--   plan_checks       1 to 6 in their order, 2 and 3 at sections, 4 at points, 5 and 6 at turns
 --
 -- Query: One train with its start and its finish, and which of these are refused: numbers 7 to 11.
 --   Query             the plan, the train's length, the section and the end by which it leaves, the section and the end by which it enters (0 = A, 1 = B)
---   query-of          a query from a plan and the five numbers by which the library's functions take it
---   start-arrival     the arrival on the start section at the start end
---   first-distance    the distance with which every walk begins: the free length of the start section from the start end
+--   query_of          a query from a plan and the five numbers by which the library's functions take it
+--   start_arrival     the arrival on the start section at the start end
+--   first_distance    the distance with which every walk begins: the free length of the start section from the start end
 --   taken             what the train and the two free lengths of its section take together
 --   stands            at least a train's length of stock stands on the start section
 --   alone             stock stands there, and it is the train and nothing else
---   finish-room       the free length at the finish end; on the start section the whole length where the train is alone
---   destination-end   a section of the plan that is a destination, and one of its ends
---   train-good        the train's length is in range
---   start-good        the train stands on a destination section and leaves by one of its ends
---   finish-good       the train enters a destination section by one of its ends, and not where it started
---   room-good         the finish room is at least the train's length
---   train-checks      7 to 10 in their order
---   query-checks      1 to 11, what search and sheet check have in common; n is the length of the label buffer
+--   finish_room       the free length at the finish end; on the start section the whole length where the train is alone
+--   destination_end   a section of the plan that is a destination, and one of its ends
+--   train_good        the train's length is in range
+--   start_good        the train stands on a destination section and leaves by one of its ends
+--   finish_good       the train enters a destination section by one of its ends, and not where it started
+--   room_good         the finish room is at least the train's length
+--   train_checks      7 to 10 in their order
+--   query_checks      1 to 11, what search and sheet check have in common; n is the length of the label buffer
 --
 -- Net: Walks over any step relation with costs: shortest, first by section numbers, remaining distance, label rules.
---   no-distance       the number that stands for "none"
+--   no_distance       the number that stands for "none"
 --   Net               the steps between arrivals, what each costs, the arrivals at which a walk may end, and the finish room
 --   Walk              the list of arrivals is a walk from the arrival a: step by step, to an arrival at which it may end; no steps at all is one too
 --   costs             the costs of the steps of a list
@@ -96,14 +96,14 @@
 --   KeepsRules        the two label rules at the arrival a
 --
 -- PullOut: Pull-outs, clause by clause.
---   all-but-last      all of a list but its last entry
+--   all_but_last      all of a list but its last entry
 --   Chain             the first section is entered at p, each next one at the far end of the one before
 --   entries           the points at which they are entered: p and the points passed between sections
 --   Turns             no turn is forbidden, that from section c into the first one included
 --   lengths           the sum of the lengths of sections
---   last-free         the last section's free length from its entry
---   PullOut           the list is a pull-out for (c, p, s) that takes the length need, over sections that pass the test may-pull: a field for each clause
---   any-section       document 01 lets a pull-out use every section, the start and the finish section too
+--   last_free         the last section's free length from its entry
+--   PullOut           the list is a pull-out for (c, p, s) that takes the length need, over sections that pass the test may_pull: a field for each clause
+--   any_section       document 01 lets a pull-out use every section, the start and the finish section too
 --   FirstPullOut      of the pull-outs for (c, p, s), the one whose list is smallest
 --   NoPullOut         there is no pull-out for (c, p, s)
 --
@@ -113,37 +113,37 @@
 --   Step              a step leaves the point of arrival a over another section, which may be entered, to that section's far end; a reversal asks for a pull-out
 --   cost              what a step costs: the section's length, and for a reversal the train's length before it
 --   Finish            a walk may end at an arrival at the finish point over a section other than the finish section
---   net-of            the steps, their costs, the ends and the room of a trip
+--   net_of            the steps, their costs, the ends and the room of a trip
 --   reversals         how many steps of a list are reversals
---   trip-of           what a query means: a step may enter a free section that is neither the finish nor the start section, which counts as occupied
---   query-net         the steps of a query's train
+--   trip_of           what a query means: a step may enter a free section that is neither the finish nor the start section, which counts as occupied
+--   query_net         the steps of a query's train
 --   total             a walk's total: first distance, costs and finish room
---   walk-reversals    a walk's number of reversals
+--   walk_reversals    a walk's number of reversals
 --
 -- Search: What the search answers, and what both lent buffers hold afterwards: numbers 1 to 14.
 --   Numbers           the five numbers of an answer; refusal 0 is success
 --   refusal           with a refusal every number but its own and the place is 0
 --   success           the total, the reversals and the steps of a walk
---   Result            an answer, and the two buffers at exit
+--   Outcome           an answer, and the two buffers at exit
 --   Labelled          one label for each arrival, and each is the remaining distance of its arrival
---   walk-checks       once the walk is known: over 2,048 steps, or more than the route buffer holds
+--   walk_checks       once the walk is known: over 2,048 steps, or more than the route buffer holds
 --   Answer            what may be answered to the query q where route and labels are the buffers at entry
 --
 -- PullAnswer: What the call for one pull-out answers, and what the lent list holds afterwards: numbers 1 to 7, 15, 16, 14.
 --   Reversal          what is asked: the plan, the train's length, the arrival and the section
---   reversal-of       what is asked, from a plan and the three numbers by which the library's function takes it
---   turn-asked        an arrival and a section of the plan, with a forbidden turn between them at the arrival's point
---   pull-checks       1 to 7 and 15 in their order
+--   reversal_of       what is asked, from a plan and the three numbers by which the library's function takes it
+--   turn_asked        an arrival and a section of the plan, with a forbidden turn between them at the arrival's point
+--   pull_checks       1 to 7 and 15 in their order
 --   Pulls             the list is the first pull-out for it, the tables taken as they stand
 --   PullsNone         no pull-out for it exists
 --   Pulled            an answer, and the lent list at exit
---   not-pulled        a refusal writes nothing
+--   not_pulled        a refusal writes nothing
 --   PullAnswer        what may be answered where list is the lent list at entry
 --
 -- Sheet: Sheets: a claim, a list of arrivals and labels, and what their checker answers: numbers 1 to 11, 17, 18, 19.
 --   Sheet             the claim (0 no route, 1 walk), the list of arrivals as the search writes them, and the labels
---   sheet-of          a sheet from the three arguments by which the library's function takes it
---   label-of          the label of an arrival
+--   sheet_of          a sheet from the three arguments by which the library's function takes it
+--   label_of          the label of an arrival
 --   Claims            what is not refused: no route and no list, or a walk and a list that is an admissible one
 --   RulesAt           what is not refused: the label rules hold at the arrival a
 --   StartLabel        what is not refused: the start label is "none" for no route, and for a walk it is what is left of the total after the first distance
@@ -158,16 +158,16 @@
 --   places            where fields begin, from byte p on; k bounds how many are listed
 --   fields            where the fields begin, from byte p on: each takes a byte at least, so the file's length bounds them
 --   layout            the bytes of each number of a field, by its tag. 1: V. 2: end A, end B, length, kind, free from A, free from B. 3: two sections. 4: train, start section and end, finish section and end
---   bytes-in          how many bytes these are in all
+--   bytes_in          how many bytes these are in all
 --   limit             how many fields of a tag a file has at most
 --   times             how often a tag occurs
---   cut-short         the file ends before the field does
+--   cut_short         the file ends before the field does
 --   unknown           not one of the four tags
---   wrong-length      not as long as a field of its tag
---   out-of-order      a tag after the tags before it, of which the latest stands first: tag 1 begins, and no tag is below the latest
---   too-many          as many fields of its tag as may be stand before it
+--   wrong_length      not as long as a field of its tag
+--   out_of_order      a tag after the tags before it, of which the latest stands first: tag 1 begins, and no tag is below the latest
+--   too_many          as many fields of its tag as may be stand before it
 --   faulty            what is wrong with the field at p, after fields with the tags before
---   fault-among       the first faulty one of some fields
+--   fault_among       the first faulty one of some fields
 --   fault             the byte at which the first faulty field begins; an empty file is at fault at 0
 --   numbers           the numbers that stand in the file from byte k on, by the bytes of each
 --   rows              the numbers of those of some fields that have tag t, one field after the other
@@ -175,25 +175,25 @@
 --   tagged            how many of some fields have tag t
 --   count             how many fields of tag t the file has
 --   Lent              the three tables that are lent to the reader: sections, turns, queries
---   lent-of           the lent tables, from the three arguments by which the library's function takes them
+--   lent_of           the lent tables, from the three arguments by which the library's function takes them
 --   Reading           what the reader answers, V and the three counts, and the lent tables at exit
 --   unread            a refusal writes nothing, and every number but its own and the place is 0
---   in-front          a table goes into the front of a lent one; the rest stays
---   in-fronts         the file's three tables in the fronts of the lent ones
+--   in_front          a table goes into the front of a lent one; the rest stays
+--   in_fronts         the file's three tables in the fronts of the lent ones
 --   holds             each lent table holds the file's
---   taken-in          success: V, the counts, and each table in front
---   read-by           the answer where the first fault is known
+--   taken_in          success: V, the counts, and each table in front
+--   read_by           the answer where the first fault is known
 --   read              what is answered to the file s: 20, then 14, then success; values are not judged
 --
 -- Cases: The small yards of document 01 with their answers: the table of the cases that are proved.
---   yard-Y            yard Y; what stands on sections 0 and 4 differs from case to case
---   plain-Y           yard Y with sections 0 and 4 free
---   from-3            a train that leaves section 3 by its end A, as all of yard Y's do
---   three-points      the yard of three points, and its query
+--   yard_Y            yard Y; what stands on sections 0 and 4 differs from case to case
+--   plain_Y           yard Y with sections 0 and 4 free
+--   from_3            a train that leaves section 3 by its end A, as all of yard Y's do
+--   three_points      the yard of three points, and its query
 --   loop              the loop, asked for the pull-out of arrival 2 and section 2
 --   Case              one case: a query and its refusal by 1 to 11; no route; a walk; a sheet; a pull-out and none
 --   Right             what a case says: the answer, whatever the lent buffers hold, where they are large enough
---   labels-Y          labels of yard Y, of which those of arrivals 2 and 6 differ from sheet to sheet
+--   labels_Y          labels of yard Y, of which those of arrivals 2 and 6 differ from sheet to sheet
 --   cases             the cases that are marked (P)
 pub mod Ranges
 pub mod Plan

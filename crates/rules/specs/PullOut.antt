@@ -40,7 +40,7 @@ module _ (y : Plan) where
   last_free p (q ∷ r ∷ qs) = last_free (far y q p) (r ∷ qs)
 
 -- [An admissible walk, pull-out] the list is a pull-out for (c, p, s) that takes the length need, over sections that pass the test
--- may-pull: a field for each clause
+-- may_pull: a field for each clause
 pub record PullOut (y : Plan) (may_pull : ℕ → Bool) (need c p s : ℕ) (qs : List ℕ) : Type 0 where
   pub one_or_more : 0 < length qs
   pub chained : Chain y p qs

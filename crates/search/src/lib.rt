@@ -2,13 +2,13 @@
 //
 // What is proved of `search`, for all numbers and all lengths of the tables and buffers that it is lent (the names are of theorems
 // about its contract, in crates/rules/proofs/SearchDemands.antt and SearchAnswers.antt):
-// - It ends with an answer, and there is one answer that its contract allows, both buffers included (answer-unique).
-// - A walk handed out is admissible (handed-out-walk), no admissible walk is shorter (handed-out-shortest), and of the shortest ones it
-//   is the first by section numbers (handed-out-first). Its total, its reversals and its steps are those of the list in the route
-//   buffer (handed-out-numbers).
-// - Number 12 is given exactly when none of 1 to 11 applies and there is no admissible walk (twelve-none, none-twelve); 13 never
-//   (never-13).
-// - With a walk and with number 12 each label is the remaining distance of its arrival, or "none" (labels-right). All else that was
+// - It ends with an answer, and there is one answer that its contract allows, both buffers included (answer_unique).
+// - A walk handed out is admissible (handed_out_walk), no admissible walk is shorter (handed_out_shortest), and of the shortest ones it
+//   is the first by section numbers (handed_out_first). Its total, its reversals and its steps are those of the list in the route
+//   buffer (handed_out_numbers).
+// - Number 12 is given exactly when none of 1 to 11 applies and there is no admissible walk (twelve_none, none_twelve); 13 never
+//   (never_13).
+// - With a walk and with number 12 each label is the remaining distance of its arrival, or "none" (labels_right). All else that was
 //   lent is as it was: the rest of the route buffer with a walk, the whole of it with 12, and both buffers with every other refusal.
 #![tactic(auto)]
 
