@@ -1,6 +1,7 @@
 -- `check_and_index` meets its contract: the verdict of rows 1 and 2, row by row, and then that of the rows below.
 -- Assumes nothing.
 use mathlib.Core.Path.{ap, refl, ◌∙◌}
+use native.Mathlib.Omega.{arith}
 use Rattle.rules.specs.Plan.{plan_of, section_count}
 use Rattle.rules.specs.PlanCheck.{section_bad}
 use Rattle.plan.specs.Answer.{checked_of}
@@ -15,7 +16,7 @@ check_ends-requires c =
     let size = sized y.points y.sections y.turns c.tables_good.ensures c.if-not-tables_good.false-raw in (
       size.0,
       joined_known size.0 size.1
-          (all_clear (section_bad y) (section_count y) c.first_bad_section-bad.ensures c.section_count.ensures c.if-bad-section_count.false),
+          (all_clear (section_bad y) (section_count y) c.first_bad_section-bad.ensures c.section_count.ensures (omega arith)),
       size.2,
       c.requires,
     )
@@ -26,6 +27,6 @@ returns c =
       c.check_ends.ensures.0
           ∙ ap checked_of
           (past_1 y c.tables_good.ensures c.if-not-tables_good.false-raw
-          (past_2 y c.first_bad_section-bad.ensures c.section_count.ensures c.if-bad-section_count.false refl)),
+          (past_2 y c.first_bad_section-bad.ensures c.section_count.ensures (omega arith) refl)),
       λ z. c.check_ends.ensures.1 (plan_three y z),
     )

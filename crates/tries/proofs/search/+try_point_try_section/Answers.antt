@@ -42,6 +42,11 @@ try_point-returns t c =
     let fails = fails_all c.args.slots.now known.0 loop.3 (omega (arith, c.loop-j-test.false)) in
     (none refl loop.1 (point_vain fails), λ e. fails_from (recalled_silent heard c.if-known-lt-NOTHING.false) fails, wrote_lessons (section_low known.0.checked known.1.inside) loop.2 fails.hopeless.limit c.keep.ensures)
 
+pub try_section-put-requires : goal.try_section-put-requires
+try_section-put-requires t c =
+    let known = c.requires in
+    (known.3, omega (arith, c.in-Met.ensures.0, arrived_low known.0.checked known.1))
+
 pub try_section-put-requires-in-On : goal.try_section-put-requires-in-On
 try_section-put-requires-in-On t c =
     let known = c.requires in

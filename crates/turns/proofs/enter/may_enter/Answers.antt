@@ -1,5 +1,6 @@
 -- `look::may_enter` meets its contract: each test is one of those that an entry asks for.
 -- Assumes nothing.
+use native.Mathlib.Omega.{arith}
 use Rattle.turns.proofs.Entering.{arrived_low, turn_shut, entry_last}
 use Rattle.turns.proofs.enter.may_enter.Goals as goal
 
@@ -19,4 +20,4 @@ returns c =
     let a = c.args in
     let known = c.requires in
     entry_last a.sections.now a.turns.now a.c a.s a.h a.p a.e known.0 known.1 known.2 c.has_section.ensures c.if-not-has_section.false-raw
-    c.touches.ensures c.if-not-touches.false-raw c.if-e-h.false c.is_forbidden.ensures c.if-is_forbidden.false c.if-e-c.false
+    c.touches.ensures c.if-not-touches.false-raw c.if-e-h.false c.is_forbidden.ensures c.if-is_forbidden.false (omega arith)
