@@ -3,8 +3,8 @@
 
 ghost use Rattle.std.specs.Prelude.{◌<◌};
 
-use libc::STDOUT_FILENO;
 use plan::Checked;
+use std::io;
 
 // Yard Y of document 01: six points, five sections, and the turn between sections 1 and 2.
 const SECTIONS: [u32; 30] = [
@@ -12,47 +12,39 @@ const SECTIONS: [u32; 30] = [
     1300, 3, 5, 2500, 1, 2500, 2500,
 ];
 
-fn say(text: &[u8]) {
-    io::write_all(STDOUT_FILENO, text);
+fn say(rt: &impl Print, text: &[u8]) -> io::Result<()> {
+    rt.write_all(text)
 }
 
-fn answer(checked: Checked) {
+fn answer(rt: &impl Print, checked: Checked) -> io::Result<()> {
     match checked {
-        Checked::Passed => {
-            say(b"passed\n");
-        }
-        Checked::Refused(number, place) => {
-            say(b"refused ");
-            io::print_decimal(STDOUT_FILENO, number as u64);
-            say(b" at ");
-            io::print_decimal(STDOUT_FILENO, place as u64);
-            say(b"\n");
-        }
+        Checked::Passed => say(rt, b"passed\n"),
+        Checked::Refused(number, place) => println!(rt; "refused {number} at {place}"),
     }
 }
 
 // Yard Y with one number of its table of sections changed.
-fn with(text: &[u8], at: usize, value: u32)
+fn with(rt: &impl Print, text: &[u8], at: usize, value: u32) -> io::Result<()>
     requires { at < 30 }
 {
     let mut sections = SECTIONS;
     sections[at] = value;
-    say(text);
-    answer(plan::check_plan(6, &sections, &[1, 2]));
+    say(rt, text)?;
+    answer(rt, plan::check_plan(6, &sections, &[1, 2]))
 }
 
 // Yard Y with another number of points and other turns.
-fn by(text: &[u8], points: u32, turns: &[u32]) {
-    say(text);
-    answer(plan::check_plan(points, &SECTIONS, turns));
+fn by(rt: &impl Print, text: &[u8], points: u32, turns: &[u32]) -> io::Result<()> {
+    say(rt, text)?;
+    answer(rt, plan::check_plan(points, &SECTIONS, turns))
 }
 
-fn main() {
-    by(b"yard Y: ", 6, &[1, 2]);
-    by(b"yard Y with 769 points: ", 769, &[1, 2]);
-    with(b"yard Y, section 1 with length 0: ", 8, 0);
-    with(b"yard Y, section 2 from point 2 to point 1: ", 13, 2);
-    by(b"yard Y with a seventh point: ", 7, &[1, 2]);
-    by(b"yard Y, a turn onto destination 3: ", 6, &[1, 3]);
-    by(b"yard Y, its turn named twice: ", 6, &[1, 2, 2, 1]);
+fn main(rt: HostRuntime) -> io::Result<()> {
+    by(&rt, b"yard Y: ", 6, &[1, 2])?;
+    by(&rt, b"yard Y with 769 points: ", 769, &[1, 2])?;
+    with(&rt, b"yard Y, section 1 with length 0: ", 8, 0)?;
+    with(&rt, b"yard Y, section 2 from point 2 to point 1: ", 13, 2)?;
+    by(&rt, b"yard Y with a seventh point: ", 7, &[1, 2])?;
+    by(&rt, b"yard Y, a turn onto destination 3: ", 6, &[1, 3])?;
+    by(&rt, b"yard Y, its turn named twice: ", 6, &[1, 2, 2, 1])
 }

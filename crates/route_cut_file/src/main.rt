@@ -1,6 +1,8 @@
 // Runs the route program on a file whose last field is cut short.
 #![tactic(auto)]
 
-fn main() {
-    route_run::run();
+use std::io;
+
+fn main(rt: HostRuntime) -> io::Result<()> {
+    route_run::run(&rt)
 }

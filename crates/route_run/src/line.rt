@@ -1,22 +1,22 @@
 // What a line is made of.
-use libc::STDOUT_FILENO;
+use std::io;
 
-pub(crate) fn say(text: &[u8]) {
-    io::write_all(STDOUT_FILENO, text);
+pub(crate) fn say(rt: &impl Print, text: &[u8]) -> io::Result<()> {
+    rt.write_all(text)
 }
 
-pub(crate) fn line_end() {
-    say(b"\n");
+pub(crate) fn line_end(rt: &impl Print) -> io::Result<()> {
+    say(rt, b"\n")
 }
 
-pub(crate) fn number(text: &[u8], n: u32) {
-    say(text);
-    io::print_decimal(STDOUT_FILENO, n as u64);
+pub(crate) fn number(rt: &impl Print, text: &[u8], n: u32) -> io::Result<()> {
+    say(rt, text)?;
+    print!(rt; "{n}")
 }
 
 // A refusal's number and place, to the end of the line.
-pub(crate) fn refused(text: &[u8], refusal: u32, place: u32) {
-    number(text, refusal);
-    number(b" ", place);
-    line_end();
+pub(crate) fn refused(rt: &impl Print, text: &[u8], refusal: u32, place: u32) -> io::Result<()> {
+    number(rt, text, refusal)?;
+    number(rt, b" ", place)?;
+    line_end(rt)
 }

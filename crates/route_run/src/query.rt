@@ -3,6 +3,7 @@ ghost use Rattle.std.specs.Prelude.{◌+◌, ◌≤◌, ◌<◌, length};
 
 use crate::line::{line_end, number, refused};
 use search::{Routed, search};
+use std::io;
 
 // The number that stands at a place of a table.
 fn number_at(table: &[u32], at: usize) -> u32 {
@@ -13,29 +14,28 @@ fn number_at(table: &[u32], at: usize) -> u32 {
 }
 
 // The arrivals of a walk of so many steps.
-fn arrivals(route: &[u32], steps: usize) {
+fn arrivals(rt: &impl Print, route: &[u32], steps: usize) -> io::Result<()> {
     let mut i: usize = 0;
     while i < route.len() {
         if steps <= i {
-            return;
+            return Ok(());
         }
-        number(b" ", route[i]);
+        number(rt, b" ", route[i])?;
         i += 1;
     }
+    Ok(())
 }
 
 // What was found, to the end of the line.
-fn answer(routed: Routed, route: &[u32]) {
+fn answer(rt: &impl Print, routed: Routed, route: &[u32]) -> io::Result<()> {
     match routed {
         Routed::Found(total, reversals, steps) => {
-            number(b" ROUTE ", total);
-            number(b" ", reversals);
-            arrivals(route, steps as usize);
-            line_end();
+            number(rt, b" ROUTE ", total)?;
+            number(rt, b" ", reversals)?;
+            arrivals(rt, route, steps as usize)?;
+            line_end(rt)
         }
-        Routed::Refused(refusal, place) => {
-            refused(b" REFUSED ", refusal, place);
-        }
+        Routed::Refused(refusal, place) => refused(rt, b" REFUSED ", refusal, place),
     }
 }
 
@@ -63,7 +63,13 @@ fn query_at(queries: &[u32], at: usize) -> Query
 }
 
 // One query, with room for the longest walk and a label for each arrival.
-fn answer_query(points: u32, sections: &[u32], turns: &[u32], q: Query)
+fn answer_query(
+    rt: &impl Print,
+    points: u32,
+    sections: &[u32],
+    turns: &[u32],
+    q: Query,
+) -> io::Result<()>
     requires { length sections.now ≤ 6144 }
 {
     let mut route = [0; 2048];
@@ -81,18 +87,25 @@ fn answer_query(points: u32, sections: &[u32], turns: &[u32], q: Query)
         &mut route,
         &mut labels[..count],
     );
-    answer(routed, &route);
+    answer(rt, routed, &route)
 }
 
 // All queries, in their order, numbered from 1.
-pub(crate) fn answer_queries(points: u32, sections: &[u32], turns: &[u32], queries: &[u32])
+pub(crate) fn answer_queries(
+    rt: &impl Print,
+    points: u32,
+    sections: &[u32],
+    turns: &[u32],
+    queries: &[u32],
+) -> io::Result<()>
     requires { (length sections.now ≤ 6144) × (length queries.now ≤ 1280) }
 {
     let mut i: usize = 0;
     while i < queries.len() / 5 {
         let q = query_at(queries, 5 * i);
         i += 1;
-        number(b"", i as u32);
-        answer_query(points, sections, turns, q);
+        number(rt, b"", i as u32)?;
+        answer_query(rt, points, sections, turns, q)?;
     }
+    Ok(())
 }

@@ -1,6 +1,8 @@
 // Runs the route program on a field of unknown tag.
 #![tactic(auto)]
 
-fn main() {
-    route_run::run();
+use std::io;
+
+fn main(rt: HostRuntime) -> io::Result<()> {
+    route_run::run(&rt)
 }

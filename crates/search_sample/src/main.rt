@@ -5,29 +5,30 @@ mod yards;
 
 ghost use Rattle.std.specs.Prelude.{◌<◌};
 
-use libc::STDOUT_FILENO;
 use search::Routed;
+use std::io;
 use yards::{BRANCHES, LINE, LOOP, PAPER, PAPER_TURNS, TWO_WAYS, YARD_Y};
 
-fn say(text: &[u8]) {
-    io::write_all(STDOUT_FILENO, text);
+fn say(rt: &impl Print, text: &[u8]) -> io::Result<()> {
+    rt.write_all(text)
 }
 
-fn number(text: &[u8], n: u32) {
-    say(text);
-    io::print_decimal(STDOUT_FILENO, n as u64);
+fn number(rt: &impl Print, text: &[u8], n: u32) -> io::Result<()> {
+    say(rt, text)?;
+    print!(rt; "{n}")
 }
 
 // The numbers of a list that stand before place n.
-fn numbers(list: &[u32], n: usize) {
+fn numbers(rt: &impl Print, list: &[u32], n: usize) -> io::Result<()> {
     let mut i: usize = 0;
     while i < list.len() {
         if n <= i {
-            return;
+            return Ok(());
         }
-        number(b" ", list[i]);
+        number(rt, b" ", list[i])?;
         i += 1;
     }
+    Ok(())
 }
 
 // What is asked of a yard: the train's length, the start and its end, the finish and its end.
@@ -40,35 +41,43 @@ struct Query {
     enter: u32,
 }
 
-fn answer(routed: Routed, route: &[u32]) {
+fn answer(rt: &impl Print, routed: Routed, route: &[u32]) -> io::Result<()> {
     match routed {
         Routed::Found(total, reversals, steps) => {
-            number(b"total ", total);
-            number(b", reversals ", reversals);
-            say(b", arrivals");
-            numbers(route, steps as usize);
-            say(b"\n");
+            number(rt, b"total ", total)?;
+            number(rt, b", reversals ", reversals)?;
+            say(rt, b", arrivals")?;
+            numbers(rt, route, steps as usize)?;
+            say(rt, b"\n")
         }
         Routed::Refused(refusal, place) => {
-            number(b"refused ", refusal);
-            number(b" at ", place);
-            say(b"\n");
+            number(rt, b"refused ", refusal)?;
+            number(rt, b" at ", place)?;
+            say(rt, b"\n")
         }
     }
 }
 
 // One query, with as many labels as the lent buffer has.
-fn ask(text: &[u8], points: u32, sections: &[u32], turns: &[u32], q: Query, labels: &mut [u32]) {
+fn ask(
+    rt: &impl Print,
+    text: &[u8],
+    points: u32,
+    sections: &[u32],
+    turns: &[u32],
+    q: Query,
+    labels: &mut [u32],
+) -> io::Result<()> {
     let mut route = [0; 16];
     let routed = search::search(
         points, sections, turns, q.length, q.start, q.leave, q.finish, q.enter, &mut route, labels,
     );
-    say(text);
-    answer(routed, &route);
+    say(rt, text)?;
+    answer(rt, routed, &route)
 }
 
 // Yard Y, for a train of this length from (3, 0) to this finish.
-fn yard_y(text: &[u8], length: u32, finish: u32, enter: u32) {
+fn yard_y(rt: &impl Print, text: &[u8], length: u32, finish: u32, enter: u32) -> io::Result<()> {
     let mut labels = [0; 10];
     let q = Query {
         length,
@@ -77,11 +86,11 @@ fn yard_y(text: &[u8], length: u32, finish: u32, enter: u32) {
         finish,
         enter,
     };
-    ask(text, 6, &YARD_Y, &[1, 2], q, &mut labels);
+    ask(rt, text, 6, &YARD_Y, &[1, 2], q, &mut labels)
 }
 
 // Yard Y with other free lengths of one section, from (3, 0) to (4, 0).
-fn stocked(text: &[u8], section: usize, from_a: u32, from_b: u32)
+fn stocked(rt: &impl Print, text: &[u8], section: usize, from_a: u32, from_b: u32) -> io::Result<()>
     requires { section < 5 }
 {
     let mut sections = YARD_Y;
@@ -95,11 +104,11 @@ fn stocked(text: &[u8], section: usize, from_a: u32, from_b: u32)
         finish: 4,
         enter: 0,
     };
-    ask(text, 6, &sections, &[1, 2], q, &mut labels);
+    ask(rt, text, 6, &sections, &[1, 2], q, &mut labels)
 }
 
 // Yard Y's labels, on the way to (4, 0), and with a buffer that is one short.
-fn labels_of_yard_y() {
+fn labels_of_yard_y(rt: &impl Print) -> io::Result<()> {
     let mut labels = [0; 10];
     let q = Query {
         length: 600,
@@ -108,30 +117,39 @@ fn labels_of_yard_y() {
         finish: 4,
         enter: 0,
     };
-    ask(b"yard Y: ", 6, &YARD_Y, &[1, 2], q, &mut labels);
-    say(b"its labels:");
-    numbers(&labels, 10);
-    say(b"\n");
+    ask(rt, b"yard Y: ", 6, &YARD_Y, &[1, 2], q, &mut labels)?;
+    say(rt, b"its labels:")?;
+    numbers(rt, &labels, 10)?;
+    say(rt, b"\n")?;
     let mut short = [0; 9];
-    ask(b"yard Y, nine labels: ", 6, &YARD_Y, &[1, 2], q, &mut short);
+    ask(
+        rt,
+        b"yard Y, nine labels: ",
+        6,
+        &YARD_Y,
+        &[1, 2],
+        q,
+        &mut short,
+    )
 }
 
-fn small_yards() {
-    labels_of_yard_y();
-    stocked(b"section 0 free 2000 and 600: ", 0, 2000, 600);
-    stocked(b"section 0 free 2000 and 599: ", 0, 2000, 599);
-    stocked(b"section 4 free 600 and 0: ", 4, 600, 0);
-    stocked(b"section 4 free 599 and 0: ", 4, 599, 0);
-    yard_y(b"length 601: ", 601, 4, 0);
-    yard_y(b"length 0: ", 0, 4, 0);
-    yard_y(b"length 20001: ", 20001, 4, 0);
-    yard_y(b"finish (3, 0): ", 600, 3, 0);
+fn small_yards(rt: &impl Print) -> io::Result<()> {
+    labels_of_yard_y(rt)?;
+    stocked(rt, b"section 0 free 2000 and 600: ", 0, 2000, 600)?;
+    stocked(rt, b"section 0 free 2000 and 599: ", 0, 2000, 599)?;
+    stocked(rt, b"section 4 free 600 and 0: ", 4, 600, 0)?;
+    stocked(rt, b"section 4 free 599 and 0: ", 4, 599, 0)?;
+    yard_y(rt, b"length 601: ", 601, 4, 0)?;
+    yard_y(rt, b"length 0: ", 0, 4, 0)?;
+    yard_y(rt, b"length 20001: ", 20001, 4, 0)?;
+    yard_y(rt, b"finish (3, 0): ", 600, 3, 0)?;
     yard_y(
+        rt,
         b"finish (3, 1), an end over the finish section itself: ",
         600,
         3,
         1,
-    );
+    )?;
     let mut labels = [0; 4];
     let q = Query {
         length: 200,
@@ -140,11 +158,11 @@ fn small_yards() {
         finish: 1,
         enter: 0,
     };
-    ask(b"three points: ", 3, &LINE, &[], q, &mut labels);
+    ask(rt, b"three points: ", 3, &LINE, &[], q, &mut labels)
 }
 
 // Document 003's Example 3: in metres 0 + 40 + (20 + 34) + 280 + 34 + (20 + 41) + 39 = 508.
-fn example_3() {
+fn example_3(rt: &impl Print) -> io::Result<()> {
     let mut sections = PAPER;
     sections[6 * 4 + 4] = 390;
     sections[6 * 4 + 5] = 0;
@@ -156,11 +174,19 @@ fn example_3() {
         finish: 4,
         enter: 0,
     };
-    ask(b"Example 3: ", 22, &sections, &PAPER_TURNS, q, &mut labels);
+    ask(
+        rt,
+        b"Example 3: ",
+        22,
+        &sections,
+        &PAPER_TURNS,
+        q,
+        &mut labels,
+    )
 }
 
 // An error planners have met: the better of two arrivals at a point is the one that can't go on.
-fn by_point() {
+fn by_point(rt: &impl Print) -> io::Result<()> {
     let mut labels = [0; 12];
     let q = Query {
         length: 1000,
@@ -170,17 +196,18 @@ fn by_point() {
         enter: 0,
     };
     ask(
+        rt,
         b"one distance per point: ",
         6,
         &TWO_WAYS,
         &[1, 2, 1, 4],
         q,
         &mut labels,
-    );
+    )
 }
 
 // A pull-out that bends round the loop would come onto the section by which the train must leave.
-fn round_the_loop(text: &[u8], length: u32) {
+fn round_the_loop(rt: &impl Print, text: &[u8], length: u32) -> io::Result<()> {
     let mut labels = [0; 14];
     let q = Query {
         length,
@@ -189,11 +216,11 @@ fn round_the_loop(text: &[u8], length: u32) {
         finish: 6,
         enter: 0,
     };
-    ask(text, 7, &LOOP, &[1, 2, 3, 5], q, &mut labels);
+    ask(rt, text, 7, &LOOP, &[1, 2, 3, 5], q, &mut labels)
 }
 
 // The first pull-out that is tried is too short, the next is long enough.
-fn next_pull_out() {
+fn next_pull_out(rt: &impl Print) -> io::Result<()> {
     let mut labels = [0; 14];
     let q = Query {
         length: 600,
@@ -203,20 +230,21 @@ fn next_pull_out() {
         enter: 0,
     };
     ask(
+        rt,
         b"the first pull-out too short: ",
         8,
         &BRANCHES,
         &[1, 2, 4, 5],
         q,
         &mut labels,
-    );
+    )
 }
 
-fn main() {
-    small_yards();
-    example_3();
-    by_point();
-    round_the_loop(b"as long as the loop's pull-out: ", 600);
-    round_the_loop(b"longer than the loop's pull-out: ", 601);
-    next_pull_out();
+fn main(rt: HostRuntime) -> io::Result<()> {
+    small_yards(&rt)?;
+    example_3(&rt)?;
+    by_point(&rt)?;
+    round_the_loop(&rt, b"as long as the loop's pull-out: ", 600)?;
+    round_the_loop(&rt, b"longer than the loop's pull-out: ", 601)?;
+    next_pull_out(&rt)
 }
