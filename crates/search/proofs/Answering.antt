@@ -11,7 +11,7 @@ use lib.Seq.{get_or-take, drop-length, length-take-le}
 use Rattle.rules.specs.Refusals.{passed, refused_at, once, verdict}
 use Rattle.rules.specs.Query.{Query, start_arrival, first_distance}
 use Rattle.rules.specs.Net.{no_distance, Walk, distance, FirstShortest, NoWalk, Remaining, no_walk, by_walk}
-use Rattle.rules.specs.Trip.{query_net, total, walk_reversals}
+use Rattle.rules.specs.Trip.{query_net, walk_reversals}
 use Rattle.rules.specs.Search.{refusal, Labelled, walk_checks, Answer, refused, no_route, unwritten, found}
 use Rattle.rules.proofs.Tests.{tests}
 use Rattle.rules.proofs.Verdicts.{refuses_once, passes_once}

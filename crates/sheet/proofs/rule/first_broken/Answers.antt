@@ -1,4 +1,3 @@
-use Prim.Native.Nat.{◌-◌}
 use Rattle.sheet.proofs.Keeping.{kept_more}
 use Rattle.sheet.proofs.rule.first_broken.Goals as goal
 

@@ -1,5 +1,4 @@
 use mathlib.Core.Path.{refl}
-use Prim.Native.Nat.{◌-◌}
 use Rattle.sheet.proofs.Following.{followed_off, followed_more, followed_end, followed_short}
 use Rattle.sheet.proofs.walk.follow.Goals as goal
 

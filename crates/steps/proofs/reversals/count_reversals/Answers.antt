@@ -1,5 +1,4 @@
 use mathlib.Core.Path.{refl}
-use Prim.Native.Nat.{◌-◌}
 use Rattle.steps.proofs.Reversing.{next_link, tallied_more}
 use Rattle.steps.proofs.reversals.count_reversals.Goals as goal
 

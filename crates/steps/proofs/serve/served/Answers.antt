@@ -1,4 +1,3 @@
-use Prim.Native.Nat.{◌-◌}
 use native.Mathlib.Omega.{arith}
 use Rattle.steps.proofs.Serving.{turn_low, asked_more, asked_all}
 use Rattle.steps.proofs.serve.served.Goals as goal
