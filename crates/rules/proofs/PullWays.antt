@@ -6,7 +6,7 @@ use mathlib.Core.Bool.{Bool}
 use mathlib.Core.List.Memᴰ
 use mathlib.Core.List.Memᴰ.{head as at_head}
 use mathlib.Core.List.Memᴰ.{not-nil as not-in-nil}
-use mathlib.Core.List.Memᴰ.{tail as in_Tail}
+use mathlib.Core.List.Memᴰ.{tail as in_tail}
 use mathlib.Core.List.{List, [], ◌∷◌, Memᴰ}
 use Prim.Native.Nat.{ℕ, ◌-◌, ◌≤◌, ◌<◌}
 use native.Mathlib.Omega.{arith}
@@ -36,14 +36,14 @@ pull_rest {y} {c} {p} {q} {j} {qs} t =
       one_or_more = omega arith;
       chained = chained t.chained;
       allowed = allowed t.allowed;
-      free = λ k m. t.free k (in_Tail m);
+      free = λ k m. t.free k (in_tail m);
       not_c = distinct_head t.once;
-      not_s = λ m. t.not_s (in_Tail m);
+      not_s = λ m. t.not_s (in_tail m);
       once = distinct_tail t.once;
       apart = distinct_tail t.apart;
       short = omega arith;
       enough = omega arith;
-      usable = λ k m. t.usable k (in_Tail m);
+      usable = λ k m. t.usable k (in_tail m);
     }
   where
     chained : Chain y p (q ∷ j ∷ qs) → Chain y (far y q p) (j ∷ qs)
@@ -76,7 +76,7 @@ pull_more {y} {q} (j ∷ qs) f e h nc ns us np t =
   where
     free : (k : ℕ) → Memᴰ k (q ∷ all_but_last (j ∷ qs)) → T (is_free y k)
     free k (at_head z) = rw z e
-    free k (in_Tail m) = t.free k m
+    free k (in_tail m) = t.free k m
 
 module _ {y : Plan} {may may_pull : ℕ → Bool} where
   -- a pull-out is a way, where its sections may be used and none of its points but the first has a mark
@@ -87,10 +87,10 @@ module _ {y : Plan} {may may_pull : ℕ → Bool} where
   clauses_way {r = r} {p = p} {marks = marks} (q ∷ j ∷ qs) us g t =
       let h : len y q < r = omega (arith, t.short) in
       next (pull_fits t (us q (at_head refl))) (t.free q (at_head refl)) h (fails (marks (far y q p)) (beyond (far y q p) (at_head refl)))
-      (clauses_way {r = r - len y q} {c = q} {p = far y q p} {marks = mark (far y q p) marks} (j ∷ qs) (λ k m. us k (in_Tail m)) fresh (pull_rest t))
+      (clauses_way {r = r - len y q} {c = q} {p = far y q p} {marks = mark (far y q p) marks} (j ∷ qs) (λ k m. us k (in_tail m)) fresh (pull_rest t))
     where
       beyond : (k : ℕ) → Memᴰ k (entries y (far y q p) (j ∷ qs)) → T (marks k) → ⊥
-      beyond k m o = distinct_head t.apart (Memᴰ.cast (sym (g k (in_Tail m) o)) m)
+      beyond k m o = distinct_head t.apart (Memᴰ.cast (sym (g k (in_tail m) o)) m)
 
       fresh : Fresh y (far y q p) (mark (far y q p) marks) (j ∷ qs)
       fresh k m o = ⊎_elim (λ i. i) (λ i. absurd (beyond k m i)) (mark_cases (far y q p) marks k o)
@@ -113,7 +113,7 @@ module _ {y : Plan} {may may_pull : ℕ → Bool} where
   }
   way_clauses nc ns us mp z (next {p} {q} {marks} {qs} f e h u w) =
       pull_more qs f e h nc ns us (λ m. unentered y (far y q p) marks qs u (way_fresh w) p m mp)
-      (way_clauses (no_return both_marked w) (λ m. ns (in_Tail m)) (λ k m. us k (in_Tail m)) (mark_put (far y q p) marks) (omega arith) w)
+      (way_clauses (no_return both_marked w) (λ m. ns (in_tail m)) (λ k m. us k (in_tail m)) (mark_put (far y q p) marks) (omega arith) w)
     where
       both_marked : (k : ℕ) → T (touches y q k) → T (mark (far y q p) marks k)
       both_marked k t = ⊎_elim (λ i. mark_stays (far y q p) marks k (rw i mp)) (λ i. rw i (mark_put (far y q p) marks)) (two_ends y q p k f.touch t)

@@ -7,7 +7,7 @@ use mathlib.Core.Logic.{◌≢◌, ◌⊎◌, inl, inr, ⊎_elim}
 use mathlib.Core.Bool.{Bool, true, false, cond, not, ◌&&◌, ◌||◌}
 use mathlib.Core.List.Memᴰ.{head as at_head}
 use mathlib.Core.List.Memᴰ.{not-nil as not-in-nil}
-use mathlib.Core.List.Memᴰ.{tail as in_Tail}
+use mathlib.Core.List.Memᴰ.{tail as in_tail}
 use mathlib.Core.List.{List, [], ◌∷◌, Memᴰ}
 use Prim.Native.Nat.{ℕ, ◌-◌, ◌≤◌, ◌<◌}
 use native.Mathlib.Omega.{arith}
@@ -102,31 +102,31 @@ module _ {y : Plan} {may : ℕ → Bool} where
 
   pub way_usable : {r c p : ℕ} {marks : ℕ → Bool} {qs : List ℕ} → Way y may r c p marks qs → (k : ℕ) → Memᴰ k qs → T (may k)
   way_usable (last f e) k (at_head z) = rw z f.usable
-  way_usable (last f e) k (in_Tail m) = absurd (not-in-nil m)
+  way_usable (last f e) k (in_tail m) = absurd (not-in-nil m)
   way_usable (next f e h u w) k (at_head z) = rw z f.usable
-  way_usable (next f e h u w) k (in_Tail m) = way_usable w k m
+  way_usable (next f e h u w) k (in_tail m) = way_usable w k m
 
   pub way_fresh : {r c p : ℕ} {marks : ℕ → Bool} {qs : List ℕ} → Way y may r c p marks qs → Fresh y p marks qs
   way_fresh (last f e) k (at_head z) t = z
-  way_fresh (last f e) k (in_Tail m) t = absurd (not-in-nil m)
+  way_fresh (last f e) k (in_tail m) t = absurd (not-in-nil m)
   way_fresh (next f e h u w) k (at_head z) t = z
-  way_fresh (next {p} {q} {marks} {qs} f e h u w) k (in_Tail m) t = absurd (unentered y (far y q p) marks qs u (way_fresh w) k m t)
+  way_fresh (next {p} {q} {marks} {qs} f e h u w) k (in_tail m) t = absurd (unentered y (far y q p) marks qs u (way_fresh w) k m t)
 
   -- each section has one of the points entered for an end
   entry : {r c p : ℕ} {marks : ℕ → Bool} {qs : List ℕ} → Way y may r c p marks qs → (k : ℕ) → Memᴰ k qs
       → (e : ℕ) × Memᴰ e (entries y p qs) × T (touches y k e)
   entry (last {p} f e) k (at_head z) = (p, at_head refl, rw z f.touch)
-  entry (last f e) k (in_Tail m) = absurd (not-in-nil m)
+  entry (last f e) k (in_tail m) = absurd (not-in-nil m)
   entry (next {p} f e h u w) k (at_head z) = (p, at_head refl, rw z f.touch)
-  entry (next f e h u w) k (in_Tail m) = let i = entry w k m in (i.0, in_Tail i.1, i.2)
+  entry (next f e h u w) k (in_tail m) = let i = entry w k m in (i.0, in_tail i.1, i.2)
 
   -- so the section before a way is not used in it, where both its ends have marks
   pub no_return : {r c p : ℕ} {marks : ℕ → Bool} {qs : List ℕ} → ((e : ℕ) → T (touches y c e) → T (marks e)) → Way y may r c p marks qs
       → Memᴰ c qs → ⊥
   no_return g (last f e) (at_head z) = f.other (sym z)
-  no_return g (last f e) (in_Tail m) = not-in-nil m
+  no_return g (last f e) (in_tail m) = not-in-nil m
   no_return g (next f e h u w) (at_head z) = f.other (sym z)
-  no_return {c} g (next {p} {q} {marks} {qs} f e h u w) (in_Tail m) =
+  no_return {c} g (next {p} {q} {marks} {qs} f e h u w) (in_tail m) =
       let i = entry w c m in
       unentered y (far y q p) marks qs u (way_fresh w) i.0 i.1 (g i.0 i.2)
 
