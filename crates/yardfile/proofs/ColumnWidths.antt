@@ -14,11 +14,11 @@ use Rattle.yardfile.specs.Widths.{Width}
 pub no_layout : (t : ℕ) → (t ≡ 1 → ⊥) → (t ≡ 2 → ⊥) → (t ≡ 3 → ⊥) → (t ≡ 4 → ⊥) → layout t ≡ []
 no_layout t a b c d = rw (ne_eqb t 1 a, ne_eqb t 2 b, ne_eqb t 3 c, ne_eqb t 4 d) refl
 
-abbrev all_widths : List ℕ → Type 0
-all_widths [] = Unit
-all_widths (w ∷ ws) = Width w × all_widths ws
+abbrev AllWidths : List ℕ → Type 0
+AllWidths [] = Unit
+AllWidths (w ∷ ws) = Width w × AllWidths ws
 
-at_width : (ws : List ℕ) → all_widths ws → (i : ℕ) → i < length ws → Width (get_or ws i 0)
+at_width : (ws : List ℕ) → AllWidths ws → (i : ℕ) → i < length ws → Width (get_or ws i 0)
 at_width [] a i h = absurd (not-suc-le-zero h)
 at_width (w ∷ ws) a zero h = a.0
 at_width (w ∷ ws) a (suc i) h = at_width ws a.1 i (le_of_suc-le-suc h)
@@ -32,10 +32,10 @@ two a b = absurd (b refl)
 four : Width 4
 four a b = refl
 
-layouts : (t : ℕ) → all_widths (layout t)
+layouts : (t : ℕ) → AllWidths (layout t)
 layouts t = go (ℕ_discrete t 1) (ℕ_discrete t 2) (ℕ_discrete t 3) (ℕ_discrete t 4)
   where
-    go : Dec (t ≡ 1) → Dec (t ≡ 2) → Dec (t ≡ 3) → Dec (t ≡ 4) → all_widths (layout t)
+    go : Dec (t ≡ 1) → Dec (t ≡ 2) → Dec (t ≡ 3) → Dec (t ≡ 4) → AllWidths (layout t)
     go (yes e) b c d = rw e (two, tt)
     go (no a) (yes e) c d = rw e (two, (two, (four, (one, (four, (four, tt))))))
     go (no a) (no b) (yes e) d = rw e (two, (two, tt))
