@@ -24,4 +24,4 @@ returns-then-served-wide-eq1 c =
 
 pub returns : goal.returns
 returns c =
-    λ v e g. no_pull_out c.requires.0 c.requires.1 v e g (is_section c.requires.0 c.requires.1 c.has_section.ensures c.if-not-has_section.false-raw) c.is_forbidden.ensures c.if-not-is_forbidden.false-raw (rw c.wide.ensures.0 at c.if-served-wide-eq1.false)
+    λ v e g. no_pull_out c.requires.0 c.requires.1 v e g (is_section c.requires.0 c.requires.1 c.has_section.ensures c.if-not-has_section.false-raw) c.is_forbidden.ensures c.if-not-is_forbidden.false-raw (rw (← c.wide.ensures.0) (omega arith))
