@@ -47,7 +47,7 @@ pub fn add(words: &mut [u32; 24], more: &[u32; 24])
     requires { Whole words.old }
     ensures { Added words.old more.now words.new }
 {
-    // A slice brings the proof of its length, which a lent array does not.
+    // read as a slice, which costs no instruction
     let more = &more[..];
     let mut i = 0;
     while i < 24 {
@@ -60,7 +60,7 @@ pub fn add(words: &mut [u32; 24], more: &[u32; 24])
 pub fn width(words: &[u32; 24]) -> usize
     ensures { Narrow words.now result }
 {
-    // a slice for the proof of its length, as in `add`
+    // read as a slice, as in `add`
     let words = &words[..];
     let mut n = 24;
     while 0 < n {
