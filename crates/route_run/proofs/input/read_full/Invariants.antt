@@ -1,10 +1,14 @@
--- `input::read_full` meets its contract. The loop's invariant: what was read lies in the buffer. The measure is what is left of it.
+-- `input::read_full` meets its contract. The loop's invariant: what was read lies at the start of the buffer. The measure is what is
+-- left of it.
 -- Assumes nothing.
-use Rattle.std.proofs.Common.{length, ◌-◌, ◌≤◌}
+use Rattle.std.proofs.Common.{length, take, ◌-◌, ◌≤◌}
+use Rattle.std.specs.Io.KnownBytes.{Consumes}
 use Rattle.route_run.proofs.input.read_full.Given as goal
 
 abbrev pub invariant-loop-done : goal.invariant-loop-done
-invariant-loop-done g l = l.done ≤ length l.buffer
+invariant-loop-done g l =
+    (l.done ≤ length l.buffer) × (length l.buffer ≤ length l.initial.buffer)
+    × Consumes (g.R.Read.remaining l.initial.input) (g.R.Read.remaining l.input) (take l.done l.buffer)
 
 abbrev pub decreases-loop-done : goal.decreases-loop-done
 decreases-loop-done g l = length l.initial.buffer - l.done
