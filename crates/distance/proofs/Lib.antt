@@ -2,11 +2,9 @@
 pub mod Sums
 pub mod Offers
 pub mod Lowering
-pub mod Linking
 pub mod TableNet
 pub mod TightNet
 pub mod Exactness
 pub mod Fronts
 pub mod Following
 pub mod Unique
-pub mod Reached

@@ -1,62 +1,69 @@
--- A table of steps as a net: what a step costs is what stands at its place (`cost_at`), and the net is bounded (`bounded`), so that
+-- A table of steps as a net: what a step costs is what stands beside it (`cost_at`), and the net is bounded (`bounded`), so that
 -- all laws of walks hold of it.
 -- Assumes nothing.
 use mathlib.Core.Path.{◌≡◌, refl, sym, ◌∙◌}
-use mathlib.Core.List.{List}
-use Prim.Native.Nat.{ℕ, ◌+◌, ◌*◌, ◌≤◌, ◌<◌}
-use native.Mathlib.Decide.{dec_lt, ℕ_discrete}
+use Prim.Native.Nat.{ℕ, ◌≤◌, ◌<◌}
+use native.Mathlib.Decide.{ℕ_discrete}
 use native.Mathlib.Omega.{arith}
 use borrow.Author.Tests.{eq-eqb, ne_eqb}
-use lib.ListN.{get_or}
+use lib.ListN.{length}
+use Rattle.rules.specs.declared.net.NetTable.{NetTable}
+use Rattle.rules.specs.declared.net.Row.{Row}
+use Rattle.rules.specs.declared.net.Step.{Step}
 use Rattle.rules.specs.Plan.{sec}
-use Rattle.rules.specs.Net.{no_distance}
 use Rattle.rules.proofs.Walks.{Bounded}
+use Rattle.rules.specs.Rows.{row_at, StepOf, first_of, second_of}
 use Rattle.distance.specs.Table.{Listed, listed_cost, table_net, Table}
 
-module _ {next cost ends : List ℕ} {room n : ℕ} (T : Table next cost ends room n) where
-  -- a place of a that leads to an arrival costs what the table says of that step: the other place leads elsewhere
-  pub cost_at : (a k b : ℕ) → a < n → 2 * a ≤ k → k ≤ 2 * a + 1 → get_or next k no_distance ≡ b → b < n → listed_cost next cost a b ≡ get_or cost k 0
-  cost_at a k b h p q e l = go (ℕ_discrete k (2 * a)) (ℕ_discrete (get_or next (2 * a) no_distance) b)
+module _ {t : NetTable} (T : Table t) where
+  abbrev n : ℕ
+  n = length t.rows.now
+
+  abbrev row : ℕ → Row
+  row a = row_at t.rows.now a
+
+  -- the two steps of a lead over different sections
+  apart : (a : ℕ) {s u : Step} → a < n → s ≡ (row a).first → u ≡ (row a).second → s.next < n → u.next < n → sec s.next < sec u.next
+  apart a h e f p q = rw (e, f) (T.ascending a h (rw e at p) (rw f at q))
+
+  -- a step of a to an arrival costs what the table says: the other step leads elsewhere
+  pub cost_at : (a b : ℕ) {s : Step} → a < n → StepOf t.rows.now a s → s.next ≡ b → b < n → listed_cost t.rows.now a b ≡ s.cost
+  cost_at a b h (first_of e) q l = let f : (row a).first.next ≡ b = rw e at q in rw (eq-eqb (row a).first.next b f, e) refl
+  cost_at a b {s} h (second_of e) q l = go (ℕ_discrete (row a).first.next b)
     where
-      go : Dec (k ≡ 2 * a) → Dec (get_or next (2 * a) no_distance ≡ b) → listed_cost next cost a b ≡ get_or cost k 0
-      go (yes z) (yes d) = rw (eq-eqb (get_or next (2 * a) no_distance) b d, z) refl
-      go (yes z) (no d) = absurd (d (rw z at e))
-      go (no z) (no d) = let y : k ≡ 2 * a + 1 = omega arith in rw (ne_eqb (get_or next (2 * a) no_distance) b d, y) refl
-      go (no z) (yes d) =
-          let y : k ≡ 2 * a + 1 = omega arith in
-          let f : get_or next (2 * a + 1) no_distance ≡ b = rw y at e in
-          absurd (omega (arith, rw (d, f) at (T.ascending a h (omega arith) (omega arith))))
+      go : Dec ((row a).first.next ≡ b) → listed_cost t.rows.now a b ≡ s.cost
+      go (yes d) = absurd (omega (arith, apart a h refl e (omega arith) (omega arith)))
+      go (no d) = rw (ne_eqb (row a).first.next b d, e) refl
 
   -- what a step costs
-  step_cost : {a b : ℕ} → Listed next n a b → (1 ≤ listed_cost next cost a b) × (listed_cost next cost a b ≤ 220000)
+  step_cost : {a b : ℕ} → Listed t.rows.now a b → (1 ≤ listed_cost t.rows.now a b) × (listed_cost t.rows.now a b ≤ 220000)
   step_cost {a} {b} s =
-      let e = cost_at a s.place b s.from s.low s.high s.leads s.to in
-      let c = T.costs s.place (omega (arith, s.from, s.high)) (omega (arith, s.leads, s.to)) in
+      let e = cost_at a b s.from s.place s.leads s.to in
+      let c = T.costs a s.step s.from s.place (omega (arith, s.leads, s.to)) in
       (omega arith, omega arith)
 
-  -- the places of a lead over different sections
-  same_place : {a b c : ℕ} → Listed next n a b → Listed next n a c → sec b ≡ sec c → b ≡ c
-  same_place {a} {b} {c} s t e = go (dec_lt s.place t.place) (dec_lt t.place s.place)
+  same_place : {a b c : ℕ} → Listed t.rows.now a b → Listed t.rows.now a c → sec b ≡ sec c → b ≡ c
+  same_place {a} {b} {c} s u e = go s.place u.place
     where
-      apart : {b c : ℕ} (s : Listed next n a b) (t : Listed next n a c) → s.place < t.place → sec b < sec c
-      apart {b} {c} s t l =
-          let x : s.place ≡ 2 * a = omega (arith, s.low, t.high) in
-          let y : t.place ≡ 2 * a + 1 = omega (arith, s.low, t.high) in
-          let f : get_or next (2 * a) no_distance ≡ b = rw x at s.leads in
-          let g : get_or next (2 * a + 1) no_distance ≡ c = rw y at t.leads in
-          rw (f, g) at (T.ascending a s.from (omega (arith, s.to)) (omega (arith, t.to)))
+      ends_at : s.step ≡ u.step → b ≡ c
+      ends_at d = sym s.leads ∙ rw d u.leads
 
-      go : Dec (s.place < t.place) → Dec (t.place < s.place) → b ≡ c
-      go (yes l) d = absurd (omega (arith, apart s t l))
-      go (no l) (yes d) = absurd (omega (arith, apart t s d))
-      go (no l) (no d) = let z : s.place ≡ t.place = omega arith in sym s.leads ∙ rw z t.leads
+      go : StepOf t.rows.now a s.step → StepOf t.rows.now a u.step → b ≡ c
+      go (first_of d) (first_of f) = ends_at (d ∙ sym f)
+      go (second_of d) (second_of f) = ends_at (d ∙ sym f)
+      go (first_of d) (second_of f) =
+          let l = rw (s.leads, u.leads) at (apart a s.from d f (omega (arith, s.to, s.leads)) (omega (arith, u.to, u.leads))) in
+          absurd (omega arith)
+      go (second_of d) (first_of f) =
+          let l = rw (s.leads, u.leads) at (apart a s.from f d (omega (arith, u.to, u.leads)) (omega (arith, s.to, s.leads))) in
+          absurd (omega arith)
 
-  pub bounded : Bounded (table_net next cost ends room n) n 220000
+  pub bounded : Bounded (table_net t) n 220000
   bounded = record {
     positive = λ s. (step_cost s).0;
     capped = λ s. (step_cost s).1;
     from = λ s. s.from;
     to = λ s. s.to;
     ending = λ f. f.inside;
-    same_step = λ s t e. same_place s t e;
+    same_step = λ s u e. same_place s u e;
   }

@@ -7,11 +7,10 @@ use Rattle.rules.specs.Net.{no_distance, Net, distance, FirstShortest, Remaining
 pub record Exact (N : Net) (n : ℕ) (labels : List ℕ) : Type 0 where
   pub right : (a : ℕ) → a < n → Remaining N a (get_or labels a no_distance)
 
--- the labels of the n arrivals were put into the lent ones, whose others are as they were
-pub record Labels (N : Net) (n : ℕ) (entry exit : List ℕ) : Type 0 where
-  pub exact : Exact N n exit
-  pub long : length exit ≡ length entry
-  pub rest : drop n exit ≡ drop n entry
+-- there are n labels, each the remaining distance of its arrival
+pub record Labels (N : Net) (n : ℕ) (labels : List ℕ) : Type 0 where
+  pub long : length labels ≡ n
+  pub exact : Exact N n labels
 
 -- the first shortest walk from a, m steps long, was put into the front of the lent list; v is its distance
 pub record Written (N : Net) (a v : ℕ) (entry : List ℕ) (m : ℕ) (exit : List ℕ) : Type 0 where

@@ -2,7 +2,7 @@
 //
 // Proved: for every table that is as asked, each label is the remaining distance of its arrival, or "none" where no walk leads on; the
 // walk is a shortest one, of these the first by its section numbers, and has fewer steps than there are arrivals; both entries end, stay
-// within the lent slices, and change nothing behind the front that they fill.
+// within the lent slices, and the walk changes nothing behind the front that it fills.
 //
 // Not proved, but argued: how long it takes. The labels are found by a worklist (worklist.rt), and that no step lowers one is then seen
 // in one pass (sweep.rt). Each arrival is looked at once to begin with and once at the end. Between, an arrival comes into the queue
@@ -21,54 +21,23 @@ mod sweep;
 mod walk;
 mod worklist;
 
-ghost use Rattle.std.specs.Prelude.{◌≤◌, ◌<◌, length, get_or};
-ghost use Rattle.rules.specs.Net.{no_distance};
+ghost use Rattle.std.specs.Prelude.{◌≡◌, length};
 ghost use Rattle.distance.specs.Table.{table_net, Table};
 ghost use Rattle.distance.specs.Labels.{Blank};
-ghost use Rattle.distance.specs.Answer.{Exact, Labels, Written};
+ghost use Rattle.distance.specs.Answer.{Labels};
 
+use rules::net::NetTable;
 use sweep::settle;
-use walk::walk_from;
+pub use walk::first_walk;
 use worklist::run_down;
 
-// The remaining distance of each arrival that has a label.
-fn remaining_of_all(next: &[u32], cost: &[u32], ends: &[u32], room: u32, labels: &mut [u32])
-    requires { Table next.now cost.now ends.now room (length labels.old) × Blank (length labels.old) labels.old }
-    ensures { Exact (table_net next.now cost.now ends.now room (length labels.old)) (length labels.old) labels.new }
+// The remaining distance of each arrival, in whose label stands "none" before.
+pub fn remaining(net: &NetTable, labels: &mut [u32])
+    requires table { Table net.now }
+    requires one_each { length labels.old ≡ length net.now.rows.now }
+    requires blank { Blank (length labels.old) labels.old }
+    ensures { Labels (table_net net.now) (length net.now.rows.now) labels.new }
 {
-    run_down(next, cost, ends, room, labels);
-    settle(next, cost, ends, room, labels);
-}
-
-// The remaining distance of each of the table's arrivals, into the front of labels, where "none" stands for each before.
-pub fn remaining(
-    next: &[u32],
-    cost: &[u32],
-    ends: &[u32],
-    room: u32,
-    count: usize,
-    labels: &mut [u32],
-)
-    requires { Table next.now cost.now ends.now room count × (count ≤ length labels.old) × Blank count labels.old }
-    ensures { Labels (table_net next.now cost.now ends.now room count) count labels.old labels.new }
-{
-    remaining_of_all(next, cost, ends, room, &mut labels[..count]);
-}
-
-// The first shortest walk from an arrival that has one, into the front of walk, and how many steps it has. The room is not read: it
-// says of which distances the labels speak.
-pub fn first_walk(
-    next: &[u32],
-    cost: &[u32],
-    ends: &[u32],
-    room: u32,
-    count: usize,
-    labels: &[u32],
-    from: usize,
-    walk: &mut [u32],
-) -> usize
-    requires { Table next.now cost.now ends.now room count × Exact (table_net next.now cost.now ends.now room count) count labels.now × (count ≤ length labels.now) × (from < count) × (get_or labels.now from no_distance < no_distance) × (count ≤ length walk.old) }
-    ensures { Written (table_net next.now cost.now ends.now room count) from (get_or labels.now from no_distance) walk.old result walk.new × (result < count) }
-{
-    walk_from(next, cost, ends, room, &labels[..count], from, walk)
+    run_down(net, labels);
+    settle(net, labels);
 }

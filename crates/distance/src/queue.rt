@@ -5,118 +5,160 @@
 // the first comes again after the last. A step costs at most 220,000, so while a ring is emptied the labels that wait belong to that ring
 // and the next 108, and those in one ring lie within 2,048. There the first to come is the first to be taken out.
 //
-// Nodes 1 to 128 are the heads, and node 129 + a is arrival a. In the links stands at 2x the node after x, and at 2x + 1 the node
-// before x; there 0 says that x is in no ring.
-ghost use Rattle.std.specs.Prelude.{◌+◌, ◌*◌, ◌≤◌, ◌<◌, length};
-ghost use Rattle.distance.specs.Queue.{Linked, Relinked};
+// Nodes 1 to 128 are the heads, and node 129 + a is arrival a. A node before which stands 0 is in no ring.
+// Links are u16 with 0 for none, since options would double the table that each run clears.
+ghost use Rattle.std.specs.Prelude.{◌≡◌, ◌+◌, ◌≤◌, ◌<◌};
+ghost use Rattle.distance.specs.Queue.{Linked};
+ghost use Rattle.distance.specs.declared.queue.TheConstants.{ARRIVALS};
 
-use crate::label::wide;
+// How many rings there are, and the last head.
+const RINGS: usize = 128;
 
 // The node of arrival 0, and one more than the last head.
-pub(crate) const ARRIVALS: usize = 129;
+const ARRIVALS: usize = 129;
 
-// The node after x.
-pub(crate) fn after(links: &[u16], x: usize) -> usize
-    requires { Linked links.now × (2 * x + 1 < length links.now) }
-    ensures { 2 * result + 1 < length links.now }
-{
-    links[2 * x] as usize
+// The nodes after and before this one in its ring.
+#[derive(Clone, Copy)]
+struct Node {
+    after: u16,
+    before: u16,
 }
 
-// The node before x, or 0.
-fn before(links: &[u16], x: usize) -> usize
-    requires { Linked links.now × (2 * x + 1 < length links.now) }
-    ensures { 2 * result + 1 < length links.now }
-{
-    links[2 * x + 1] as usize
+impl Node {
+    // A node in no ring.
+    const ALONE: Node = Node {
+        after: 0,
+        before: 0,
+    };
 }
 
-// Makes y the node after x.
-fn join(links: &mut [u16], x: usize, y: usize)
-    requires { Linked links.old × (2 * x + 1 < length links.old) × (2 * y + 1 < length links.old) }
-    ensures { Relinked links.old links.new }
-{
-    links[2 * x] = y as u16;
-    links[2 * y + 1] = x as u16;
+// The nodes, and how many arrivals have come to wait.
+#[derive(Drop)]
+pub(crate) struct Queue<const L: usize> {
+    nodes: [Node; L],
+    pub(crate) came: u32,
+    ghost few: { L ≤ 65536 },
+    ghost heads: { ARRIVALS ≤ L },
+    ghost linked: { Linked L nodes },
 }
 
-// Makes every ring empty: its head alone.
-pub(crate) fn empty_rings(links: &mut [u16])
-    requires { Linked links.old × (258 ≤ length links.old) }
-    ensures { Relinked links.old links.new }
-{
-    let mut head: usize = 1;
-    while head < ARRIVALS {
-        join(links, head, head);
-        head += 1;
+impl<const L: usize> Queue<L> {
+    // A queue to which none has come yet; its rings are still to be made.
+    pub(crate) fn new() -> Self
+        requires has_heads { ARRIVALS ≤ L }
+        requires few { L ≤ 65536 }
+        ensures { result.came ≡ 0 }
+    {
+        Queue {
+            nodes: [Node::ALONE; L],
+            came: 0,
+        }
+    }
+
+    // The node after x.
+    fn after(&self, x: usize) -> usize
+        requires { x < L }
+        ensures { result < L }
+    {
+        self.nodes[x].after as usize
+    }
+
+    // The node before x, or 0 if it is in no ring.
+    fn before(&self, x: usize) -> usize
+        requires { x < L }
+        ensures { result < L }
+    {
+        self.nodes[x].before as usize
+    }
+
+    // Makes y the node after x.
+    fn join(&mut self, x: usize, y: usize)
+        requires x_in_bounds { x < L }
+        requires y_in_bounds { y < L }
+        ensures { self.new.came ≡ self.old.came }
+    {
+        self.nodes[x].after = y as u16;
+        self.nodes[y].before = x as u16;
+    }
+
+    // Makes every ring empty: its head alone.
+    pub(crate) fn empty_rings(&mut self)
+        ensures { self.new.came ≡ self.old.came }
+    {
+        for head in 1..ARRIVALS {
+            self.join(head, head);
+        }
+    }
+
+    // The head of the first ring from this on in which an arrival waits.
+    pub(crate) fn full_ring(&self, from: usize) -> usize
+        requires { from < ARRIVALS }
+        ensures { result < ARRIVALS }
+    {
+        let mut head = from;
+        for _ in 0..RINGS {
+            if ARRIVALS <= self.after(head) {
+                return head;
+            }
+            head = head % RINGS + 1;
+        }
+        head
+    }
+
+    // Puts the node x at the back of a ring.
+    fn append(&mut self, head: usize, x: usize)
+        requires head_in_bounds { head < L }
+        requires x_in_bounds { x < L }
+        ensures { self.new.came ≡ self.old.came }
+    {
+        let last = self.before(head);
+        self.join(last, x);
+        self.join(x, head);
+    }
+
+    // Takes the node x out of the ring in which it is; where it is in none, one more has come.
+    fn leave(&mut self, x: usize)
+        requires in_bounds { x < L }
+        requires countable { self.old.came < 4294967295 }
+        ensures { self.new.came ≤ self.old.came + 1 }
+    {
+        let last = self.before(x);
+        if last == 0 {
+            self.came += 1;
+            return;
+        }
+        let rest = self.after(x);
+        self.join(last, rest);
+    }
+
+    // Arrival a, whose label has fallen to this, waits in its ring and in no other.
+    pub(crate) fn wait(&mut self, a: usize, label: u32)
+        requires has_node { ARRIVALS + a < L }
+        requires countable { self.old.came < 4294967295 }
+        ensures { self.new.came ≤ self.old.came + 1 }
+    {
+        let x = ARRIVALS + a;
+        self.leave(x);
+        self.append(ring(label), x);
+    }
+
+    // Takes the first arrival out of a ring, if one waits there.
+    pub(crate) fn take(&mut self, head: usize) -> Option<usize>
+        requires { head < ARRIVALS }
+        ensures { self.new.came ≡ self.old.came }
+    {
+        let x = self.after(head);
+        let a = x.checked_sub(ARRIVALS)?;
+        let rest = self.after(x);
+        self.join(head, rest);
+        self.nodes[x].before = 0;
+        Some(a)
     }
 }
 
 // The head of the ring of a label.
 pub(crate) fn ring(label: u32) -> usize
-    ensures { result < 129 }
+    ensures { result < ARRIVALS }
 {
-    wide(label / 2048 % 128) + 1
-}
-
-// The head of the first ring from this on in which an arrival waits.
-pub(crate) fn full_ring(links: &[u16], from: usize) -> usize
-    requires { Linked links.now × (258 ≤ length links.now) × (from < 129) }
-    ensures { result < 129 }
-{
-    let mut head = from;
-    let mut left: u32 = 128;
-    while 0 < left {
-        if ARRIVALS <= after(links, head) {
-            return head;
-        }
-        head = head % 128 + 1;
-        left -= 1;
-    }
-    head
-}
-
-// Puts the node x at the back of a ring.
-fn append(links: &mut [u16], head: usize, x: usize)
-    requires { Linked links.old × (2 * head + 1 < length links.old) × (2 * x + 1 < length links.old) }
-    ensures { Relinked links.old links.new }
-{
-    let last = before(links, head);
-    join(links, last, x);
-    join(links, x, head);
-}
-
-// Takes the node x out of the ring in which it is; what is counted, with one more if it is in none.
-fn leave(links: &mut [u16], x: usize, counted: u32) -> u32
-    requires { Linked links.old × (2 * x + 1 < length links.old) × (counted < 4294967295) }
-    ensures { Relinked links.old links.new × (result ≤ counted + 1) }
-{
-    let last = before(links, x);
-    if last == 0 {
-        return counted + 1;
-    }
-    let rest = after(links, x);
-    join(links, last, rest);
-    counted
-}
-
-// Arrival a, whose label has fallen to this, waits in its ring and in no other; what is counted, with one more if it waited in none.
-pub(crate) fn wait(links: &mut [u16], a: usize, label: u32, counted: u32) -> u32
-    requires { Linked links.old × (258 + 2 * a + 1 < length links.old) × (counted < 4294967295) }
-    ensures { Relinked links.old links.new × (result ≤ counted + 1) }
-{
-    let x = ARRIVALS + a;
-    let came = leave(links, x, counted);
-    append(links, ring(label), x);
-    came
-}
-
-// Takes the node x, the first after the head, out of its ring.
-pub(crate) fn take(links: &mut [u16], head: usize, x: usize)
-    requires { Linked links.old × (2 * head + 1 < length links.old) × (2 * x + 1 < length links.old) }
-    ensures { Relinked links.old links.new }
-{
-    let rest = after(links, x);
-    join(links, head, rest);
-    links[2 * x + 1] = 0;
+    (label / 2048 % 128) as usize + 1
 }

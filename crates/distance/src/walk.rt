@@ -1,46 +1,43 @@
 // The first shortest walk: from arrival to arrival by the step of the smallest section that gives the label.
-ghost use Rattle.std.specs.Prelude.{◌*◌, ◌≤◌, ◌<◌, length, get_or};
+ghost use Rattle.std.specs.Prelude.{◌≡◌, ◌≤◌, ◌<◌, length, get_or};
 ghost use Rattle.rules.specs.Net.{no_distance};
 ghost use Rattle.distance.specs.Table.{table_net, Table};
-ghost use Rattle.distance.specs.Answer.{Exact, Written};
+ghost use Rattle.distance.specs.Answer.{Labels, Written};
 ghost use Rattle.distance.specs.Picked.{Picked};
 
-use crate::label::{offer, wide};
+use crate::label::offer;
+use rules::net::NetTable;
 
-// Where the first place of arrival a leads, whose section is the smaller, if it offers the label of a; else where the second leads.
-fn pick(next: &[u32], cost: &[u32], labels: &[u32], a: usize) -> u32
-    requires { (a < length labels.now) × (2 * length labels.now ≤ length next.now) × (2 * length labels.now ≤ length cost.now) }
-    ensures { Picked next.now cost.now labels.now a result }
+// Where the first step of arrival a leads, whose section is the smaller, if it offers the label of a; else where the second leads.
+fn pick(net: &NetTable, labels: &[u32], a: usize) -> u32
+    requires one_each { length labels.now ≡ length net.now.rows.now }
+    requires in_bounds { a < length labels.now }
+    ensures { Picked net.now.rows.now labels.now a result }
 {
-    let first = 2 * a;
-    let second = 2 * a + 1;
-    if offer(next, cost, labels, first) == labels[a] {
-        return next[first];
+    let row = &net.rows[a];
+    if offer(&row.first, labels) == labels[a] {
+        return row.first.next;
     }
-    next[second]
+    row.second.next
 }
 
-// The first shortest walk from an arrival that has one, into the front of walk, and how many steps it has.
-pub(crate) fn walk_from(
-    next: &[u32],
-    cost: &[u32],
-    ends: &[u32],
-    room: u32,
-    labels: &[u32],
-    from: usize,
-    walk: &mut [u32],
-) -> usize
-    requires table { Table next.now cost.now ends.now room (length labels.now) }
-    requires exact { Exact (table_net next.now cost.now ends.now room (length labels.now)) (length labels.now) labels.now }
-    requires from_in_bounds { (from < length labels.now) × (get_or labels.now from no_distance < no_distance) × (length labels.now ≤ length walk.old) }
-    ensures { Written (table_net next.now cost.now ends.now room (length labels.now)) from (get_or labels.now from no_distance) walk.old result walk.new × (result < length labels.now) }
+// The first shortest walk from an arrival that has one, into the front of walk, and how many steps it has. The room is not read: it
+// says of which distances the labels speak.
+pub fn first_walk(net: &NetTable, labels: &[u32], from: usize, walk: &mut [u32]) -> usize
+    requires table { Table net.now }
+    requires exact { Labels (table_net net.now) (length net.now.rows.now) labels.now }
+    requires from_in_bounds { from < length net.now.rows.now }
+    requires reached { get_or labels.now from no_distance < no_distance }
+    requires walk_fits { length net.now.rows.now ≤ length walk.old }
+    ensures written { Written (table_net net.now) from (get_or labels.now from no_distance) walk.old result walk.new }
+    ensures short { result < length net.now.rows.now }
 {
     let mut a = from;
     let mut k: usize = 0;
-    while ends[a] != 1 {
-        let b = pick(next, cost, labels, a);
+    while !net.rows[a].ends {
+        let b = pick(net, labels, a);
         walk[k] = b;
-        a = wide(b);
+        a = b as usize;
         k += 1;
     }
     k

@@ -1,218 +1,180 @@
 // The worklist: labels fall from the ends backwards, step by step, so that the sweep that follows finds them settled. Nothing is
 // claimed of which arrivals wait, only that labels stay above what is offered: the sweep decides.
-ghost use Rattle.std.specs.Prelude.{◌+◌, ◌*◌, ◌≤◌, ◌<◌, length};
-ghost use Rattle.distance.specs.Labels.{Sizes, Kept, Passed, Begun};
-ghost use Rattle.distance.specs.Queue.{Linked, Relinked, Ready};
+ghost use Rattle.std.specs.Prelude.{◌≡◌, ◌+◌, ◌*◌, ◌≤◌, ◌<◌, cond, length};
+ghost use Rattle.distance.specs.Labels.{Sizes, Kept};
+ghost use Rattle.distance.specs.declared.queue.TheConstants.{ARRIVALS};
 
-use crate::label::{lower, plus, wide};
-use crate::queue::{ARRIVALS, after, empty_rings, full_ring, ring, take, wait};
+use crate::label::lower;
+use crate::queue::{Queue, ring};
+use rules::net::{NetTable, Row, Step};
 
-// Notes that the step at place k leads to arrival b. In the number of an arrival stands one more than the last such place below, and
-// above, times 65,536, one more than the last but one. No arrival of a plan has a third; one left out would leave it to the sweep.
-fn note_place(leading: &mut [u32], k: usize, b: u32)
+// The last two places whose steps lead to an arrival: 2a is that of the first step of arrival a, 2a + 1 that of its second. No arrival of a
+// plan has a third; one left out would leave it to the sweep.
+// Places, since with arrivals, whose step had to be found, a run took a sixth longer; as u16, since options double the table that each run clears.
+#[derive(Clone, Copy)]
+struct Leading {
+    last: u16,
+    before: u16,
+}
+
+impl Leading {
+    // No place: there is no such arrival.
+    const NONE: Leading = Leading {
+        last: 65535,
+        before: 65535,
+    };
+}
+
+// Notes that the step at place k leads to arrival b.
+fn note_place(leading: &mut [Leading], k: usize, b: u32)
     requires { k < 4096 }
 {
-    let at = wide(b);
-    if leading.len() <= at {
-        return;
+    let at = b as usize;
+    if at < leading.len() {
+        leading[at].before = leading[at].last;
+        leading[at].last = k as u16;
     }
-    leading[at] = leading[at] % 65536 * 65536 + (k as u32 + 1);
 }
 
-// Gives arrival a, if a walk may end there, the room for its label; it waits where its label falls. The answer is how many have come to
-// wait, where it was as many as counted.
-fn begin_at(
-    ends: &[u32],
-    room: u32,
-    labels: &mut [u32],
-    links: &mut [u16],
-    a: usize,
-    counted: u32,
-) -> u32
-    requires { (a < length labels.old) × (length labels.old ≤ length ends.now) × (258 + 2 * length labels.old ≤ length links.old) × Linked links.old × (counted < 4294967295) }
-    ensures { Begun ends.now room labels.old labels.new × Relinked links.old links.new × (result ≤ counted + 1) }
+// The step of a row at an even or an odd place.
+fn step_at(row: &Row, odd: bool) -> &Step
+    ensures { result.now ≡ cond odd row.now.second row.now.first }
 {
-    if ends[a] != 1 {
-        return counted;
-    }
-    if lower(labels, a, room) == 0 {
-        return counted;
-    }
-    wait(links, a, room, counted)
+    if odd { &row.second } else { &row.first }
 }
 
-// Notes all places, and gives the arrivals at which a walk may end their labels; how many came to wait.
-fn begin(
-    next: &[u32],
-    ends: &[u32],
-    room: u32,
-    labels: &mut [u32],
-    leading: &mut [u32],
-    links: &mut [u16],
-) -> u32
-    requires { (length labels.old ≤ 2048) × (2 * length labels.old ≤ length next.now) × (length labels.old ≤ length ends.now) × (258 + 2 * length labels.old ≤ length links.old) × Linked links.old }
-    ensures { Begun ends.now room labels.old labels.new × Relinked links.old links.new × (result ≤ 2048) }
-{
-    let mut came: u32 = 0;
-    let mut a: usize = 0;
-    while a < labels.len() {
-        note_place(leading, 2 * a, next[2 * a]);
-        note_place(leading, 2 * a + 1, next[2 * a + 1]);
-        came = begin_at(ends, room, labels, links, a, came);
-        a += 1;
-    }
-    came
+// The tables of the worklist, for at most A arrivals.
+// Net and labels are lent to each method: a struct that held the lent labels would have to say in each contract that they are the same slice still.
+#[derive(Drop)]
+struct Worklist<const A: usize, const L: usize> {
+    leading: [Leading; A],
+    queue: Queue<L>,
+    ghost small: { A ≤ 2048 },
+    ghost node_each: { ARRIVALS + A ≤ L },
 }
 
-// Lowers the label of an arrival that has a step to b to what that step offers; one more than its place is given, or 0. The arrival
-// waits where its label falls. The answer is how many have come to wait, where it was as many as counted.
-fn pass_place(
-    next: &[u32],
-    cost: &[u32],
-    labels: &mut [u32],
-    links: &mut [u16],
-    b: usize,
-    noted: u32,
-    counted: u32,
-) -> u32
-    requires { (b < length labels.old) × Ready next.now cost.now labels.old links.old × (counted < 4294967295) }
-    ensures { Passed next.now cost.now labels.old labels.new × Relinked links.old links.new × (result ≤ counted + 1) }
-{
-    if noted == 0 {
-        return counted;
+impl<const A: usize, const L: usize> Worklist<A, L> {
+    // Gives arrival a, if a walk may end there, the room for its label; it waits where its label falls.
+    fn begin_at(&mut self, net: &NetTable, labels: &mut [u32], a: usize)
+        requires sizes { Sizes A net.now labels.old }
+        requires in_bounds { a < length labels.old }
+        requires countable { self.old.queue.came < 4294967295 }
+        ensures kept { Kept net.now labels.old labels.new }
+        ensures counted { self.new.queue.came ≤ self.old.queue.came + 1 }
+    {
+        if net.rows[a].ends && lower(labels, a, net.room) {
+            self.queue.wait(a, net.room);
+        }
     }
-    let k = wide(noted - 1);
-    if labels.len() <= k / 2 {
-        return counted;
-    }
-    if wide(next[k]) != b {
-        return counted;
-    }
-    let v = plus(cost[k], labels[b]);
-    if lower(labels, k / 2, v) == 0 {
-        return counted;
-    }
-    wait(links, k / 2, v, counted)
-}
 
-// Passes the label of arrival b back over the steps that lead to it. The answer is how many arrivals have come to wait, where it was
-// as many as counted.
-fn pass_back(
-    next: &[u32],
-    cost: &[u32],
-    labels: &mut [u32],
-    leading: &[u32],
-    links: &mut [u16],
-    b: usize,
-    counted: u32,
-) -> u32
-    requires { (b < length labels.old) × (length labels.old ≤ length leading.now) × Ready next.now cost.now labels.old links.old × (counted + 1 < 4294967295) }
-    ensures { Passed next.now cost.now labels.old labels.new × Relinked links.old links.new × (result ≤ counted + 2) }
-{
-    let places = leading[b];
-    let came = pass_place(next, cost, labels, links, b, places % 65536, counted);
-    pass_place(next, cost, labels, links, b, places / 65536, came)
-}
-
-// Takes the first arrival out of a ring and passes its label back. The answer is how many arrivals have come to wait, where it was as
-// many as counted.
-fn serve(
-    next: &[u32],
-    cost: &[u32],
-    labels: &mut [u32],
-    leading: &[u32],
-    links: &mut [u16],
-    head: usize,
-    counted: u32,
-) -> u32
-    requires { (head < 129) × (length labels.old ≤ length leading.now) × Ready next.now cost.now labels.old links.old × (counted + 1 < 4294967295) }
-    ensures { Passed next.now cost.now labels.old labels.new × Relinked links.old links.new × (result ≤ counted + 2) }
-{
-    let x = after(links, head);
-    if x < ARRIVALS {
-        return counted;
+    // Notes all steps, and gives the arrivals at which a walk may end their labels.
+    fn begin(&mut self, net: &NetTable, labels: &mut [u32])
+        requires sizes { Sizes A net.now labels.old }
+        requires none_came { self.old.queue.came ≡ 0 }
+        ensures kept { Kept net.now labels.old labels.new }
+        ensures counted { self.new.queue.came ≤ 2048 }
+    {
+        for a in 0..labels.len() {
+            note_place(&mut self.leading, 2 * a, net.rows[a].first.next);
+            note_place(&mut self.leading, 2 * a + 1, net.rows[a].second.next);
+            self.begin_at(net, labels, a);
+        }
     }
-    let b = x - ARRIVALS;
-    if labels.len() <= b {
-        return counted;
-    }
-    take(links, head, x);
-    pass_back(next, cost, labels, leading, links, b, counted)
-}
 
-// Passes labels back from the arrivals that wait, ring by ring, until as many were taken out as came. That it stops when the square
-// of the number of arrivals were taken out is for the proof that it ends.
-fn chase(
-    next: &[u32],
-    cost: &[u32],
-    labels: &mut [u32],
-    leading: &[u32],
-    links: &mut [u16],
-    first: usize,
-    begun: u32,
-)
-    requires { (first < 129) × (begun ≤ 2048) × (length labels.old ≤ length leading.now) × Ready next.now cost.now labels.old links.old }
-    ensures { Passed next.now cost.now labels.old labels.new }
-{
-    let mut head = first;
-    let mut came = begun;
-    let mut taken: u32 = 0;
-    while taken < 4194304 {
-        if taken == came {
+    // Lowers the label of an arrival that has a step to b at this place to what that step offers. The arrival waits where its label falls.
+    fn pass_to(&mut self, net: &NetTable, labels: &mut [u32], b: usize, place: u16)
+        requires sizes { Sizes A net.now labels.old }
+        requires in_bounds { b < length labels.old }
+        requires countable { self.old.queue.came < 4294967295 }
+        ensures kept { Kept net.now labels.old labels.new }
+        ensures counted { self.new.queue.came ≤ self.old.queue.came + 1 }
+    {
+        let a = place as usize / 2;
+        if labels.len() <= a {
             return;
         }
-        head = full_ring(links, head);
-        came = serve(next, cost, labels, leading, links, head, came);
-        taken += 1;
+        let step = step_at(&net.rows[a], place % 2 == 1);
+        if step.next as usize != b {
+            return;
+        }
+        let v = step.cost.saturating_add(labels[b]);
+        if lower(labels, a, v) {
+            self.queue.wait(a, v);
+        }
+    }
+
+    // Passes the label of arrival b back over the steps that lead to it.
+    fn pass_back(&mut self, net: &NetTable, labels: &mut [u32], b: usize)
+        requires sizes { Sizes A net.now labels.old }
+        requires in_bounds { b < length labels.old }
+        requires countable { self.old.queue.came + 1 < 4294967295 }
+        ensures kept { Kept net.now labels.old labels.new }
+        ensures counted { self.new.queue.came ≤ self.old.queue.came + 2 }
+    {
+        let Leading { last, before } = self.leading[b];
+        self.pass_to(net, labels, b, last);
+        self.pass_to(net, labels, b, before);
+    }
+
+    // Takes the first arrival out of a ring and passes its label back.
+    fn serve(&mut self, net: &NetTable, labels: &mut [u32], head: usize)
+        requires sizes { Sizes A net.now labels.old }
+        requires is_head { head < ARRIVALS }
+        requires countable { self.old.queue.came + 1 < 4294967295 }
+        ensures kept { Kept net.now labels.old labels.new }
+        ensures counted { self.new.queue.came ≤ self.old.queue.came + 2 }
+    {
+        let Some(b) = self.queue.take(head) else {
+            return;
+        };
+        if b < labels.len() {
+            self.pass_back(net, labels, b);
+        }
+    }
+
+    // Passes labels back from the arrivals that wait, ring by ring, until as many were taken out as came. That it stops when the square
+    // of the number of arrivals were taken out is for the proof that it ends.
+    fn chase(&mut self, net: &NetTable, labels: &mut [u32])
+        requires sizes { Sizes A net.now labels.old }
+        requires begun { self.old.queue.came ≤ 2048 }
+        ensures { Kept net.now labels.old labels.new }
+    {
+        let mut head = ring(net.room);
+        for taken in 0..4194304 {
+            if taken == self.queue.came {
+                return;
+            }
+            head = self.queue.full_ring(head);
+            self.serve(net, labels, head);
+        }
     }
 }
 
-// Labels as low as the worklist makes them, with the tables that it is lent.
-fn run_with(
-    next: &[u32],
-    cost: &[u32],
-    ends: &[u32],
-    room: u32,
-    labels: &mut [u32],
-    leading: &mut [u32],
-    links: &mut [u16],
-)
-    requires { Sizes next.now cost.now ends.now labels.old × (length labels.old ≤ length leading.old) × Ready next.now cost.now labels.old links.old }
-    ensures { Kept next.now cost.now ends.now room labels.old labels.new }
+// Labels as low as the worklist makes them, with tables for A arrivals and L nodes.
+fn run_with<const A: usize, const L: usize>(net: &NetTable, labels: &mut [u32])
+    requires sizes { Sizes A net.now labels.old }
+    requires small { A ≤ 2048 }
+    requires node_each { ARRIVALS + A ≤ L }
+    requires few { L ≤ 65536 }
+    ensures { Kept net.now labels.old labels.new }
 {
-    empty_rings(links);
-    let begun = begin(next, ends, room, labels, leading, links);
-    chase(next, cost, labels, leading, links, ring(room), begun);
-}
-
-// The same with tables for at most 128 arrivals.
-fn run_small(next: &[u32], cost: &[u32], ends: &[u32], room: u32, labels: &mut [u32])
-    requires { (length labels.old ≤ 128) × Sizes next.now cost.now ends.now labels.old }
-    ensures { Kept next.now cost.now ends.now room labels.old labels.new }
-{
-    let mut leading = [0; 128];
-    let mut links = [0; 514];
-    run_with(next, cost, ends, room, labels, &mut leading, &mut links);
-}
-
-// The same with tables for all arrivals that there can be.
-fn run_large(next: &[u32], cost: &[u32], ends: &[u32], room: u32, labels: &mut [u32])
-    requires { Sizes next.now cost.now ends.now labels.old }
-    ensures { Kept next.now cost.now ends.now room labels.old labels.new }
-{
-    let mut leading = [0; 2048];
-    let mut links = [0; 4354];
-    run_with(next, cost, ends, room, labels, &mut leading, &mut links);
+    let mut worklist: Worklist<A, L> = Worklist {
+        leading: [Leading::NONE; A],
+        queue: Queue::new(),
+    };
+    worklist.queue.empty_rings();
+    worklist.begin(net, labels);
+    worklist.chase(net, labels);
 }
 
 // Labels as low as the worklist makes them. A small plan has small tables, since clearing them takes time.
-pub(crate) fn run_down(next: &[u32], cost: &[u32], ends: &[u32], room: u32, labels: &mut [u32])
-    requires { Sizes next.now cost.now ends.now labels.old }
-    ensures { Kept next.now cost.now ends.now room labels.old labels.new }
+pub(crate) fn run_down(net: &NetTable, labels: &mut [u32])
+    requires { Sizes 2048 net.now labels.old }
+    ensures { Kept net.now labels.old labels.new }
 {
     if labels.len() <= 128 {
-        run_small(next, cost, ends, room, labels);
+        run_with::<128, 257>(net, labels);
     } else {
-        run_large(next, cost, ends, room, labels);
+        run_with::<2048, 2177>(net, labels);
     }
 }

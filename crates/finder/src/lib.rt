@@ -10,14 +10,16 @@ ghost use Rattle.rules.specs.Search as rules;
 ghost use Rattle.rules.specs.Sheet.{sheet_of, SheetAnswer};
 ghost use Rattle.rules.specs.PullAnswer.{reversal_of, PullAnswer};
 ghost use Rattle.rules.specs.YardFile.{lent_of, read};
-ghost use Rattle.finder.specs.Numbers.{yard_reading, yard_answer, answer_of, check_answer, pull_numbers, pull_answer, answer_result, route_answer, answer_numbers, sheet_answer};
+ghost use Rattle.finder.specs.Numbers.{answer_of, refused_answer, route_answer, answer_numbers, answer_result, refused_pull, pull_numbers, refused_yard, counts_yard, yard_reading};
 ghost use Rattle.finder.specs.Version.{version};
 
-use plan::Checked;
-use pullout::Pulled;
-use search::Routed;
-use sheet::Judged;
-use yardfile::Read;
+use plan::Plan;
+use pullout::Reversal;
+use rules::refusal::Refusal;
+use rules::route::Route;
+use sheet::Sheet;
+use train::Query;
+use yardfile::Counts;
 
 // The five numbers of an answer.
 #[repr(C)]
@@ -30,6 +32,43 @@ pub struct Answer {
     pub steps: u32,
 }
 
+impl Answer {
+    // Neither a refusal nor a walk.
+    const ZEROS: Answer = Answer {
+        refusal: 0,
+        place: 0,
+        total: 0,
+        reversals: 0,
+        steps: 0,
+    };
+}
+
+impl From<Refusal> for Answer {
+    ghost from_gives = { λ refusal answer. answer ≡ refused_answer refusal };
+
+    fn from(refusal: Refusal) -> Answer {
+        let place = refusal.place();
+        Answer {
+            refusal: refusal.number(),
+            place,
+            ..Answer::ZEROS
+        }
+    }
+}
+
+impl From<Route> for Answer {
+    ghost from_gives = { λ route answer. answer ≡ route_answer route };
+
+    fn from(route: Route) -> Answer {
+        Answer {
+            total: route.total,
+            reversals: route.reversals,
+            steps: route.steps,
+            ..Answer::ZEROS
+        }
+    }
+}
+
 // The three numbers of a pull-out.
 #[repr(C)]
 #[derive(Clone, Copy)]
@@ -37,6 +76,18 @@ pub struct Pull {
     pub refusal: u32,
     pub place: u32,
     pub count: u32,
+}
+
+impl From<Refusal> for Pull {
+    ghost from_gives = { λ refusal pull. pull ≡ refused_pull refusal };
+
+    fn from(refusal: Refusal) -> Pull {
+        Pull {
+            refusal: refusal.number(),
+            place: refusal.place(),
+            count: 0,
+        }
+    }
 }
 
 // The six numbers of a yard file.
@@ -51,25 +102,33 @@ pub struct Yard {
     pub queries: u32,
 }
 
-// The numbers of a check.
-fn checked(answer: Checked) -> Answer
-    ensures { result ≡ check_answer answer }
-{
-    match answer {
-        Checked::Passed => Answer {
+impl From<Refusal> for Yard {
+    ghost from_gives = { λ refusal yard. yard ≡ refused_yard refusal };
+
+    fn from(refusal: Refusal) -> Yard {
+        Yard {
+            refusal: refusal.number(),
+            place: refusal.place(),
+            points: 0,
+            sections: 0,
+            turns: 0,
+            queries: 0,
+        }
+    }
+}
+
+impl From<Counts> for Yard {
+    ghost from_gives = { λ counts yard. yard ≡ counts_yard counts };
+
+    fn from(counts: Counts) -> Yard {
+        Yard {
             refusal: 0,
             place: 0,
-            total: 0,
-            reversals: 0,
-            steps: 0,
-        },
-        Checked::Refused(number, place) => Answer {
-            refusal: number,
-            place: place,
-            total: 0,
-            reversals: 0,
-            steps: 0,
-        },
+            points: counts.points,
+            sections: counts.sections,
+            turns: counts.turns,
+            queries: counts.queries,
+        }
     }
 }
 
@@ -78,28 +137,14 @@ fn checked(answer: Checked) -> Answer
 pub extern "C" fn finder_check_plan(points: u32, sections: &[u32], turns: &[u32]) -> Answer
     ensures { result ≡ answer_of (rules.refusal (verdict (plan_checks (plan_of points sections.now turns.now)))) }
 {
-    checked(plan::check_plan(points, sections, turns))
-}
-
-// The numbers of a search.
-fn routed(answer: Routed) -> Answer
-    ensures { result ≡ route_answer answer }
-{
-    match answer {
-        Routed::Found(total, reversals, steps) => Answer {
-            refusal: 0,
-            place: 0,
-            total: total,
-            reversals: reversals,
-            steps: steps,
-        },
-        Routed::Refused(number, at) => Answer {
-            refusal: number,
-            place: at,
-            total: 0,
-            reversals: 0,
-            steps: 0,
-        },
+    let plan = Plan {
+        points,
+        sections,
+        turns,
+    };
+    match plan.check() {
+        Ok(()) => Answer::ZEROS,
+        Err(refusal) => refusal.into(),
     }
 }
 
@@ -119,30 +164,22 @@ pub extern "C" fn finder_search(
 ) -> Answer
     ensures { rules.Answer (query_of (plan_of points sections.now turns.now) length start leave finish enter) route.old labels.old (answer_result result route.new labels.new) }
 {
-    routed(search::search(
-        points, sections, turns, length, start, leave, finish, enter, route, labels,
-    ))
-}
-
-// The numbers of a sheet check.
-fn judged(answer: Judged) -> Answer
-    ensures { result ≡ sheet_answer answer }
-{
-    match answer {
-        Judged::Accepted(sum, turned, count) => Answer {
-            refusal: 0,
-            place: 0,
-            total: sum,
-            reversals: turned,
-            steps: count,
-        },
-        Judged::Refused(number, at) => Answer {
-            refusal: number,
-            place: at,
-            total: 0,
-            reversals: 0,
-            steps: 0,
-        },
+    let plan = Plan {
+        points,
+        sections,
+        turns,
+    };
+    let query = Query {
+        plan,
+        length,
+        start,
+        leave,
+        finish,
+        enter,
+    };
+    match search::search(&query, route, labels) {
+        Ok(found) => found.into(),
+        Err(refusal) => refusal.into(),
     }
 }
 
@@ -163,27 +200,28 @@ pub extern "C" fn finder_check_sheet(
 ) -> Answer
     ensures { SheetAnswer (query_of (plan_of points sections.now turns.now) length start leave finish enter) (sheet_of claim list.now labels.now) (answer_numbers result) }
 {
-    let answer = sheet::check_sheet(
-        points, sections, turns, length, start, leave, finish, enter, claim, list, labels,
-    );
-    judged(answer)
-}
-
-// The numbers of a pull-out.
-fn pulled(answer: Pulled) -> Pull
-    ensures { result ≡ pull_answer answer }
-{
-    match answer {
-        Pulled::Found(count) => Pull {
-            refusal: 0,
-            place: 0,
-            count: count,
-        },
-        Pulled::Refused(number, at) => Pull {
-            refusal: number,
-            place: at,
-            count: 0,
-        },
+    let plan = Plan {
+        points,
+        sections,
+        turns,
+    };
+    let query = Query {
+        plan,
+        length,
+        start,
+        leave,
+        finish,
+        enter,
+    };
+    let sheet = Sheet {
+        claim,
+        list,
+        labels,
+    };
+    match sheet::check_sheet(&query, &sheet) {
+        Ok(Some(route)) => route.into(),
+        Ok(None) => Answer::ZEROS,
+        Err(refusal) => refusal.into(),
     }
 }
 
@@ -200,30 +238,24 @@ pub extern "C" fn finder_pull_out(
 ) -> Pull
     ensures { PullAnswer (reversal_of (plan_of points sections.now turns.now) length arrival section) list.old (pull_numbers result list.new) }
 {
-    pulled(pullout::pull_out(points, sections, turns, length, arrival, section, list))
-}
-
-// The numbers of a yard file.
-fn taken_in(answer: Read) -> Yard
-    ensures { result ≡ yard_answer answer }
-{
-    match answer {
-        Read::Yard(v, e, t, q) => Yard {
+    let plan = Plan {
+        points,
+        sections,
+        turns,
+    };
+    let reversal = Reversal {
+        plan,
+        length,
+        arrival,
+        section,
+    };
+    match pullout::pull_out(&reversal, list) {
+        Ok(count) => Pull {
             refusal: 0,
             place: 0,
-            points: v,
-            sections: e,
-            turns: t,
-            queries: q,
+            count,
         },
-        Read::Refused(number, offset) => Yard {
-            refusal: number,
-            place: offset,
-            points: 0,
-            sections: 0,
-            turns: 0,
-            queries: 0,
-        },
+        Err(refusal) => refusal.into(),
     }
 }
 
@@ -237,7 +269,10 @@ pub extern "C" fn finder_read_yard(
 ) -> Yard
     ensures { yard_reading result (lent_of sections.new turns.new queries.new) ≡ read file.now (lent_of sections.old turns.old queries.old) }
 {
-    taken_in(yardfile::read_yard(file, sections, turns, queries))
+    match yardfile::read_yard(file, sections, turns, queries) {
+        Ok(counts) => counts.into(),
+        Err(refusal) => refusal.into(),
+    }
 }
 
 // The version of this library, as include/finder.h writes it.

@@ -1,5 +1,3 @@
 -- Laws that the functions' proofs cite, and those by which a search uses its lessons.
 pub mod Limits
-pub mod Rows
 pub mod Remembering
-pub mod Reading

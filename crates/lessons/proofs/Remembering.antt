@@ -1,104 +1,119 @@
 -- The table of lessons: an empty one is right, what it tells is a limit, and what is kept in it is one.
 -- Assumes nothing.
-use mathlib.Core.Path.{◌≡◌, sym}
-use mathlib.Core.Logic.{◌≢◌, ◌⊎◌, inl, inr}
+use mathlib.Core.Path.{◌≡◌, refl, ◌∙◌}
 use mathlib.Core.Bool.{Bool}
-use mathlib.Core.List.{List}
-use Prim.Native.Nat.{ℕ, ◌+◌, ◌*◌, ◌≤◌, ◌<◌}
+use mathlib.Core.List.{List, ◌++◌}
+use Prim.Native.Nat.{ℕ, zero, suc, min, ◌≤◌, ◌<◌}
 use native.Mathlib.Omega.{arith}
 use native.Mathlib.Decide.{ℕ_discrete}
-use lib.ListN.{get_or, replicate, length-replicate, get_or-replicate}
-use Rattle.points.specs.Points.{Whole, Among, member, kept}
-use Rattle.points.proofs.Keeping.{kept_same}
+use lib.ListN.{length, get_or, set, take, replicate, length-set}
+use lib.Seq.{get_or-set_same, get_or-set_other}
+use Rattle.std.proofs.Common.{Option, Some, None}
+use Rattle.std.proofs.lemmas.List.{take_at}
+use Rattle.points.specs.declared.Points.{Points}
+use Rattle.points.specs.Points.{Among, member, Narrow, Loaded}
+use Rattle.lessons.specs.declared.lesson.Row.{Row}
 use Rattle.lessons.specs.Limit.{AnyList, Limit, Hopeless}
-use Rattle.lessons.specs.Table.{nothing, place, Inside, over_of, words_of, most_of, head_at, reasons_at, RightAt, Lessons, SameLessons, Recalled, silent, told, Wrote, left_out, put_in}
+use Rattle.lessons.specs.declared.lesson.Lesson.{Lesson}
+use Rattle.lessons.specs.Table.{nothing, no_lesson, no_row, Teaches, lesson_of, row_of, words_of, RightAt, Lessons, SameLessons, Recalled, silent, told, Wrote, left_out, put_in}
+use Rattle.points.proofs.Words.{saved_kept}
 use Rattle.lessons.proofs.Limits.{looser}
-use Rattle.lessons.proofs.Rows.{first_apart, lessons_apart}
 
 -- sets with the same points
-alike : {f g : ℕ → Bool} → ((k : ℕ) → f k ≡ g k) → Among f g
-alike e k t = rw (← (e k)) t
-
 alike_back : {f g : ℕ → Bool} → ((k : ℕ) → f k ≡ g k) → Among g f
 alike_back e k t = rw (e k) t
 
--- what the table tells has its reasons; where it tells nothing, they are left as they were
-module _ {h p left r : ℕ} {marks : ℕ → Bool} {b ws m us : List ℕ} where
-  pub recalled_whole : Recalled h p marks left b ws r m us → r < nothing → Whole us
-  recalled_whole (silent e i k) z = absurd (omega arith)
-  recalled_whole (told j l i t d e k v) z = k.whole
+-- where the table tells nothing, the reasons are left as they were
+pub recalled_silent : {h p left : ℕ} {marks : ℕ → Bool} {b m : List Row} {ws us : Points} {r : Option ℕ}
+    → Recalled h p marks left b ws r m us → r ≡ None → us ≡ ws
+recalled_silent (silent e i k) z = k
+recalled_silent (told j l i t e k v) z = cc
 
-  pub recalled_silent : Recalled h p marks left b ws r m us → nothing ≤ r → us ≡ ws
-  recalled_silent (silent e i k) z = k
-  recalled_silent (told j l i t d e k v) z = absurd (omega arith)
+no_lessons : (l : Lesson) → l.over ≡ None → (n j : ℕ) → (get_or (replicate n l) j no_lesson).over ≡ None
+no_lessons l e zero j = refl
+no_lessons l e (suc n) zero = e
+no_lessons l e (suc n) (suc j) = no_lessons l e n j
+
+no_rows : (n p j : ℕ) → (lesson_of (replicate n nothing) p j).over ≡ None
+no_rows zero p j = refl
+no_rows (suc n) zero j = no_lessons _ refl 4 j
+no_rows (suc n) (suc p) j = no_rows n p j
+
+-- the point's row is changed, in where its next lesson goes alone
+pub telling : {h p left j : ℕ} {marks : ℕ → Bool} {b : List Row} {ws us : Points} (row : Row) → p < length b → row.lessons ≡ (row_of b p).lessons
+    → (j < 4) × Teaches (lesson_of b p j) h marks left → Loaded (words_of (lesson_of b p j)) us
+    → Recalled h p marks left b ws (Some (lesson_of b p j).most) (set b p row) us
+telling {h} {p} {left} {j} {marks} {b} {ws} {us} row l e t k =
+    told j t.0 l t.1 refl k (record { size = simp length-set; lessons = rw (get_or-set_same b p row no_row l) e; others = λ q n. get_or-set_other b p q row no_row n })
+
+-- words that are written over the first of a lesson's are the words that it has
+pub first_words : (ws new after : List ℕ) {m n : ℕ} → n ≤ 24 → length new ≡ m → new ≡ take m ws → m ≡ n → take (min n 24) (new ++ after) ≡ take n ws
+first_words ws new after {m} {n} l size e same = let few : min n 24 ≡ m = omega arith in rw (few, ← same) (take_at new after m size ∙ e)
+
+-- the point's row is changed, in its lesson j and where the next one goes
+pub writing : {h p most j : ℕ} {ws : Points} {b : List Row} (l : Lesson) (next : ℕ) → p < length b → j < length (row_of b p).lessons → j < 4
+    → l.over ≡ Some h → l.most ≡ most → Narrow ws l.words → words_of l ≡ take l.words ws.words
+    → Wrote h p most ws b (set b p (record { next = next; lessons = set (row_of b p).lessons j l }))
+writing {h} {p} {most} {j} {ws} {b} l next inside room four over far narrow words =
+    put_in j four (simp length-set)
+    (record {
+      over = rw (row, lesson) over;
+      far = rw (row, lesson) far;
+      narrow = rw (row, lesson) narrow;
+      reasons = λ k. rw (row, lesson) (rw words (saved_kept narrow k));
+      lessons = λ i n. rw row (get_or-set_other (row_of b p).lessons j i l no_lesson n);
+      others = λ q n. get_or-set_other b p q _ no_row n;
+    })
+  where
+    now : Row
+    now = record { next = next; lessons = set (row_of b p).lessons j l }
+
+    row : get_or (set b p now) p no_row ≡ now
+    row = get_or-set_same b p now no_row inside
+
+    lesson : get_or (set (row_of b p).lessons j l) j no_lesson ≡ l
+    lesson = get_or-set_same (row_of b p).lessons j l no_lesson room
 
 module _ {ss ts : List ℕ} {c s : ℕ} where
   pub blank_lessons : (n : ℕ) → Lessons ss ts c s (replicate n nothing)
-  blank_lessons n = record { right = λ p j l h few. absurd (go p j l (rw (length-replicate {A = ℕ} n nothing) at h) few) }
-    where
-      go : (p j : ℕ) → j < 4 → 101 * p + 101 ≤ n → words_of (head_at (replicate n nothing) (place p j)) ≤ 24 → ⊥
-      go p j l h few = let e = get_or-replicate {A = ℕ} n (place p j) nothing 0 (omega arith) in omega arith
-
-  -- a lesson that stands in another table just so
-  same_lesson : (b m : List ℕ) (p i : ℕ) → ((n : ℕ) → i ≤ n → n < i + 25 → get_or m n 0 ≡ get_or b n 0) → RightAt ss ts c s b p i → RightAt ss ts c s m p i
-  same_lesson b m p i same right few =
-      let e = same i (omega arith) (omega arith) in
-      moved (sym e) (looser (λ qs k. k) (alike_back (kept_same b m (i + 1) (words_of (head_at b i)) (λ j l. same (i + 1 + j) (omega arith) (omega arith)))) (omega arith) (right (omega arith)))
-    where
-      moved : {x z : ℕ} → x ≡ z → Limit ss ts c s (over_of x) p AnyList (kept m (i + 1) (words_of x)) (most_of x)
-          → Limit ss ts c s (over_of z) p AnyList (kept m (i + 1) (words_of z)) (most_of z)
-      moved e u = rw e at u
-
-  pub same_lessons : {p : ℕ} {b m : List ℕ} → SameLessons p b m → Lessons ss ts c s b → Lessons ss ts c s m
-  same_lessons {p} {b} {m} o right =
-      record { right = λ q j l h. same_lesson b m q (place q j) (λ n u v. o.same n (first_apart q j p n l (u, v))) (right.right q j l (omega (arith, o.size))) }
+  blank_lessons n = record { right = λ p j h e. let none = no_rows n p j in cc }
 
   -- what the table tells a try
-  module _ {h p left r : ℕ} {marks : ℕ → Bool} {b ws m us : List ℕ} (right : Lessons ss ts c s b) (o : Recalled h p marks left b ws r m us) where
+  module _ {h p left : ℕ} {marks : ℕ → Bool} {b m : List Row} {ws us : Points} {r : Option ℕ} (right : Lessons ss ts c s b) (o : Recalled h p marks left b ws r m us) where
     pub recalled_lessons : Lessons ss ts c s m
     recalled_lessons = go o
       where
+        same_lessons : SameLessons p b m → (q j : ℕ) → Dec (q ≡ p) → lesson_of m q j ≡ lesson_of b q j
+        same_lessons v q j (yes e) = rw (e, v.lessons) refl
+        same_lessons v q j (no e) = rw (v.others q e) refl
+
         go : Recalled h p marks left b ws r m us → Lessons ss ts c s m
         go (silent e i k) = rw i right
-        go (told j l i t d e k v) = same_lessons v right
+        go (told j l i t e k v) = record { right = λ q a. rw (same_lessons v q a (ℕ_discrete q p)) (right.right q a) }
 
-    pub recalled_hopeless : r < nothing → Hopeless ss ts c s h p AnyList marks left (member us) r
-    recalled_hopeless z = go o
+    pub recalled_hopeless : {most : ℕ} → r ≡ Some most → Hopeless ss ts c s h p AnyList marks left (member us) most
+    recalled_hopeless {most} z = go o
       where
-        moved : {x : ℕ} {why : ℕ → Bool} {most : ℕ} → x ≡ h → Limit ss ts c s x p AnyList why most → Limit ss ts c s h p AnyList why most
-        moved e u = rw e at u
-
-        go : Recalled h p marks left b ws r m us → Hopeless ss ts c s h p AnyList marks left (member us) r
-        go (silent e i k) = absurd (omega arith)
-        go (told j l i t d e k v) =
+        go : Recalled h p marks left b ws r m us → Hopeless ss ts c s h p AnyList marks left (member us) most
+        go (silent e i k) = cc
+        go (told j l i t e k v) =
+            let far : (lesson_of b p j).most ≡ most = cc in
             record {
               met = λ n f. t.met n (rw (k.members n) at f);
-              less = omega (arith, t.less);
-              limit = looser (λ qs f. f) (alike_back k.members) (omega arith) (moved t.over (right.right p j l i t.few));
+              less = rw far at t.less;
+              limit = looser (λ qs f. f) (alike_back k.members) (omega arith) (right.right p j h t.over);
             }
 
   -- a limit that is kept
-  pub wrote_lessons : {h p most : ℕ} {ws b m : List ℕ} → h < 1024 → Lessons ss ts c s b → Limit ss ts c s h p AnyList (member ws) most → Wrote h p most ws b m
+  pub wrote_lessons : {h p most : ℕ} {ws : Points} {b m : List Row} → Lessons ss ts c s b → Limit ss ts c s h p AnyList (member ws) most → Wrote h p most ws b m
       → Lessons ss ts c s m
-  wrote_lessons low right u (left_out e) = rw e right
-  wrote_lessons {h} {p} {most} {ws} {b} {m} low right u (put_in j l z w) = record { right = λ q i k o. go q i k o (ℕ_discrete q p) (ℕ_discrete i j) }
+  wrote_lessons right u (left_out e) = rw e right
+  wrote_lessons {h} {p} {most} {ws} {b} {m} right u (put_in j l z w) = record { right = λ q i. go q i (ℕ_discrete q p) (ℕ_discrete i j) }
     where
-      here : RightAt ss ts c s m p (place p j)
-      here few = at w.narrow.low w.head
-        where
-          named : {x y z : ℕ} → x ≡ h → y ≡ w.words → z ≡ most → Limit ss ts c s x p AnyList (kept m (place p j + 1) y) z
-          named e f g = rw (e, f, g) (looser (λ qs k. k) (alike_back w.reasons) (omega arith) u)
+      here : RightAt ss ts c s p (lesson_of m p j)
+      here x e = let same : x ≡ h = cc in rw same (looser (λ qs k. k) (alike_back w.reasons) (omega arith) u)
 
-          at : w.words ≤ 24 → head_at m (place p j) ≡ 32768 * most + 1024 * w.words + h
-              → Limit ss ts c s (over_of (head_at m (place p j))) p AnyList (reasons_at m (place p j)) (most_of (head_at m (place p j)))
-          at few e = named (omega arith) (omega arith) (omega arith)
-
-      elsewhere : (q i : ℕ) → i < 4 → (q ≢ p) ⊎ (i ≢ j) → Inside m q → RightAt ss ts c s m q (place q i)
-      elsewhere q i k d o =
-          same_lesson b m q (place q i)
-          (λ n a e. w.others n (first_apart q i p n k (a, e)) (lessons_apart q i p j n k l d (a, e))) (right.right q i k (omega arith))
-
-      go : (q i : ℕ) → i < 4 → Inside m q → Dec (q ≡ p) → Dec (i ≡ j) → RightAt ss ts c s m q (place q i)
-      go q i k o (yes e) (yes f) = rw (e, f) here
-      go q i k o (yes e) (no f) = elsewhere q i k (inr f) o
-      go q i k o (no e) f = elsewhere q i k (inl e) o
+      go : (q i : ℕ) → Dec (q ≡ p) → Dec (i ≡ j) → RightAt ss ts c s q (lesson_of m q i)
+      go q i (yes e) (yes f) = rw (e, f) here
+      go q i (yes e) (no f) = rw (e, w.lessons i f) (right.right p i)
+      go q i (no e) f = rw (w.others q e) (right.right q i)

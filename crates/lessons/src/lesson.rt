@@ -1,42 +1,66 @@
-// Which lesson of a row is of use to a try.
-ghost use Rattle.std.specs.Prelude.{◌≡◌, true, ◌+◌, ◌*◌, ◌≤◌, ◌<◌, length};
+// Lessons, as the table keeps them: what one says, and the four of a point.
+ghost use Rattle.std.specs.Prelude.{◌≡◌, true, ◌<◌, IfSome};
 ghost use Rattle.points.specs.Points.{member};
-ghost use Rattle.lessons.specs.Table.{Teaches};
+ghost use Rattle.lessons.specs.Table.{Teaches, lesson_in, words_of};
 
-use crate::LESSON;
-use plan::read::wide;
-use points::has_kept;
+use points::Points;
 
-// The lesson at this place is one of the arrival over section h, it allows less than is left, and all its reasons have marks.
-fn teaches(memo: &[u32], at: usize, h: u32, marks: &[u32; 24], left: u32) -> bool
-    requires { at + 25 ≤ length memo.now }
-    ensures { result ≡ true → Teaches memo.now at h (member marks.now) left }
-{
-    let head = memo[at];
-    if head % 1024 != h {
-        return false;
-    }
-    if left <= head / 32768 {
-        return false;
-    }
-    let words = wide(head / 1024 % 32);
-    if 24 < words {
-        return false;
-    }
-    has_kept(marks, memo, at + 1, words)
+// A train that came over this section gets no further than `most`, for the reasons that the first words keep. One over no section is no
+// lesson.
+#[derive(Clone, Copy)]
+pub struct Lesson {
+    pub(crate) most: u32,
+    pub(crate) over: Option<u16>,
+    pub(crate) words: u16,
+    pub(crate) reasons: [u32; 24],
 }
 
-// The first lesson of a row that teaches the try, or 4 where none does.
-pub(crate) fn lesson_for(memo: &[u32], row: usize, h: u32, marks: &[u32; 24], left: u32) -> u32
-    requires { row + 101 ≤ length memo.now }
-    ensures { result < 4 → Teaches memo.now (row + 1 + 25 * result) h (member marks.now) left }
-{
-    let mut which: u32 = 0;
-    while which < 4 {
-        if teaches(memo, row + 1 + LESSON * wide(which), h, marks, left) {
-            return which;
-        }
-        which += 1;
+// What the table has of one point: its lessons, and the place that the next one takes.
+#[derive(Clone, Copy)]
+pub struct Row {
+    pub(crate) next: u32,
+    pub(crate) lessons: [Lesson; 4],
+}
+
+impl Lesson {
+    const NONE: Lesson = Lesson {
+        most: 0,
+        over: None,
+        words: 0,
+        reasons: [0; 24],
+    };
+
+    // The lesson is one of the arrival over section h, it allows less than is left, and all its reasons have marks.
+    fn teaches(&self, h: u32, marks: &Points, left: u32) -> bool
+        ensures { result ≡ true → Teaches self.now h (member marks.now) left }
+    {
+        let Some(over) = self.over else {
+            return false;
+        };
+        u32::from(over) == h && self.most < left && marks.has_all(self.kept())
     }
-    4
+
+    // The words of its reasons.
+    pub(crate) fn kept(&self) -> &[u32]
+        ensures { result.now ≡ words_of self.now }
+    {
+        &self.reasons[..(self.words as usize).min(24)]
+    }
+}
+
+impl Row {
+    // No lesson.
+    pub const NOTHING: Row = Row {
+        next: 0,
+        lessons: [Lesson::NONE; 4],
+    };
+
+    // The first lesson that teaches the try.
+    pub(crate) fn lesson_for(&self, h: u32, marks: &Points, left: u32) -> Option<usize>
+        ensures { IfSome result (λ j. (j < 4) × Teaches (lesson_in self.now j) h (member marks.now) left) }
+    {
+        self.lessons
+            .iter()
+            .position(|lesson| lesson.teaches(h, marks, left))
+    }
 }

@@ -2,21 +2,21 @@
 -- Assumes nothing.
 use mathlib.Core.Path.{◌≡◌, refl, sym, ◌∙◌}
 use mathlib.Core.Logic.{◌≢◌}
-use mathlib.Core.Bool.{true, not, cond, ◌||◌}
+use mathlib.Core.Bool.{true, cond, ◌||◌}
 use mathlib.Core.List.{List}
 use Prim.Native.Nat.{ℕ, ◌+◌, ◌≤◌, ◌<◌}
 use native.Mathlib.Omega.{arith}
-use native.Mathlib.Decide.{ℕ_discrete, dec_le}
+use native.Mathlib.Decide.{ℕ_discrete}
 use borrow.Author.Tests.{eq-eqb, ne_eqb}
-use lib.Dec.{T, eqb, ltb}
+use lib.Dec.{eqb, ltb, nltb→le}
 use lib.ListN.{length, get_or, length-set, replicate, length-replicate, get_or-replicate}
 use lib.Seq.{get_or-set_same, get_or-set_other}
-use Rattle.rules.specs.Ranges.{between, first_where}
 use Rattle.rules.specs.Plan.{plan_of, of_sections, section_count, end_A, end_B, touches}
 use Rattle.rules.specs.PlanCheck.{degree_bad}
-use Rattle.rules.proofs.Tests.{tests, fails, clash, gives_true, gives_same}
 use Rattle.rules.proofs.Ranges.{count_next, count_le}
 use Rattle.plan.specs.Ends.{Joins, Joined, AtMostThree, Degrees, degree_before, counted, degree_bad_by}
+use Rattle.std.proofs.Common.{Option, Bool, false, zero, suc, [], ◌∷◌}
+use Rattle.plan.specs.Lent.{First}
 use Rattle.plan.proofs.Looking.{first_same}
 
 -- the loop has come to section k on its way to n, the number of sections, and d counts the sections before k
@@ -35,8 +35,8 @@ pub counts_all : {ss d : List ℕ} {n k : ℕ} → Counts ss d n k → n ≤ k �
 counts_all {ss} {d} {n} {k} c g = let z : k ≡ section_count (of_sections ss) = omega (arith, c.end, c.within) in record { at = rw z at c.at }
 
 -- a table of degrees in which nothing is over three
-pub none_over : {ss d : List ℕ} → Degrees ss d → ((p : ℕ) → p < 768 → get_or d p 0 ≤ 3) → AtMostThree ss
-none_over t all = record { at = λ p h. omega (arith, t.at p h, all p h) }
+pub few_over : {ss d : List ℕ} → Degrees ss d → ((p : ℕ) → p < 768 → get_or d p 0 ≤ 3) → AtMostThree ss
+few_over t all = record { at = λ p h. omega (arith, t.at p h, all p h) }
 
 pub counted_at : (d : List ℕ) (a p : ℕ) → a < length d → get_or (counted d a) p 0 ≡ get_or d p 0 + cond (eqb a p) 1 0
 counted_at d a p h = go (ℕ_discrete a p)
@@ -102,19 +102,5 @@ module _ {ss d : List ℕ} {n k : ℕ} (c : Counts ss d n k) (l : k < n) where
             c.at p h,
           )
 
--- refusal 4 by a number of sections: under one, or else over three
-pub too_few : (n : ℕ) → n < 1 → true ≡ not (between 1 n 3)
-too_few n l = gives_true (fails (between 1 n 3) (λ t. let h = simp tests at t in omega arith))
-
-pub too_many : (n : ℕ) → 1 ≤ n → ltb 3 n ≡ not (between 1 n 3)
-too_many n l =
-    gives_same (λ t. let h = simp tests at t in fails (between 1 n 3) (λ u. let g = simp tests at u in omega arith))
-    (λ t. simp tests (under (dec_le n 3) t))
-  where
-    under : Dec (n ≤ 3) → T (not (between 1 n 3)) → 3 < n
-    under (yes d) t = absurd (clash (between 1 n 3) (simp tests (omega arith)) t)
-    under (no d) t = omega arith
-
-pub by_degrees : {ss d : List ℕ} (v : ℕ) (ts : List ℕ) → Degrees ss d → v ≤ 768 → first_where (degree_bad_by d) 0 v ≡ first_where (degree_bad (plan_of v ss ts)) 0 v
-by_degrees {ss} {d} v ts t l =
-    first_same (degree_bad_by d) (degree_bad (plan_of v ss ts)) v (λ p h. rw (t.at p (omega arith)) refl)
+pub by_degrees : {ss d : List ℕ} (v : ℕ) (ts : List ℕ) (r : Option ℕ) → Degrees ss d → v ≤ 768 → First (degree_bad_by d) v r → First (degree_bad (plan_of v ss ts)) v r
+by_degrees v ts r t l = first_same r (λ p h. rw (t.at p (omega arith)) refl)

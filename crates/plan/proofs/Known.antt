@@ -1,13 +1,12 @@
 -- What is known of a plan where some of its checks have passed.
 -- Assumes nothing.
-use mathlib.Core.Path.{◌≡◌}
+use mathlib.Core.Path.{◌≡◌, refl}
 use mathlib.Core.Logic.{⊎_elim}
 use mathlib.Core.Bool.{Bool, true, false, not, cond, ◌&&◌}
 use mathlib.Core.List.{List, []}
 use Prim.Native.Nat.{ℕ, ◌≤◌, ◌<◌}
 use native.Mathlib.Omega.{arith}
 use native.Mathlib.Decide.{dec_lt}
-use borrow.Author.Tests.{not-false}
 use lib.Dec.{T}
 use Rattle.rules.specs.Plan.{Plan, plan_of, of_sections, section_count, turn_count, end_A, end_B, touches, turn_section, turn_point}
 use Rattle.rules.specs.Refusals.{verdict, passed}
@@ -17,7 +16,8 @@ use Rattle.rules.proofs.Verdicts.{Passed, passes}
 use Rattle.plan.specs.Ends.{Joins, Joined, AtMostThree}
 use Rattle.plan.specs.Turns.{Turned, connecting_pair, share_point}
 use Rattle.plan.proofs.Counting.{count_reaches}
-use Rattle.plan.proofs.Looking.{Clear}
+use Rattle.plan.specs.Lent.{NoneBelow}
+use Rattle.plan.proofs.Looking.{as_tests}
 use Rattle.plan.proofs.Touching.{touch_cases}
 
 -- of a rule in two halves that is not broken, the first
@@ -25,24 +25,28 @@ first_half : (a b : Bool) → T (not (not (a && b))) → T a
 first_half true b t = tt
 first_half false b t = t
 
+fails_says : (b : Bool) → T (not b) → b ≡ false
+fails_says true t = absurd t
+fails_says false t = refl
+
 -- number 1: r says that the tables are good
-pub sized : (v : ℕ) (ss ts : List ℕ) {r : Bool} → r ≡ tables_good (plan_of v ss ts) → not r ≡ false
+pub sized : (v : ℕ) (ss ts : List ℕ) {r : Bool} → r ≡ tables_good (plan_of v ss ts) → r ≡ true
     → (v ≤ 768) × (section_count (of_sections ss) ≤ 1024) × (turn_count (plan_of 0 ss ts) ≤ 768)
-sized v ss ts {r} e t = let h = simp tests at (says_true (tables_good (plan_of v ss ts)) (not-false r t) e) in (omega arith, omega arith, omega arith)
+sized v ss ts {r} e t = let h = simp tests at (says_true (tables_good (plan_of v ss ts)) t e) in (omega arith, omega arith, omega arith)
 
 -- number 2
 ground_of : (v : ℕ) (ss : List ℕ) (s : ℕ) → T (not (section_bad (plan_of v ss []) s)) → T (ground_good (plan_of v ss []) s)
 ground_of v ss s t = first_half (ground_good (plan_of v ss []) s) (stock_good (plan_of v ss []) s) t
 
-pub joined_known : {v : ℕ} {ss : List ℕ} → v ≤ 768 → section_count (of_sections ss) ≤ 1024 → Clear (section_bad (plan_of v ss [])) (section_count (of_sections ss)) → Joined ss
-joined_known {v} {ss} l m c = record { few = m; each = λ s h. at s (ground_of v ss s (c.below s h)) }
+pub joined_known : {v : ℕ} {ss : List ℕ} → v ≤ 768 → section_count (of_sections ss) ≤ 1024 → NoneBelow (section_bad (plan_of v ss [])) (section_count (of_sections ss)) → Joined ss
+joined_known {v} {ss} l m c = record { few = m; each = λ s h. at s (ground_of v ss s (as_tests (section_bad (plan_of v ss [])) c s h)) }
   where
     at : (s : ℕ) → T (ground_good (plan_of v ss []) s) → Joins ss s
     at s t = let h = simp tests at t in record { a = omega arith; b = omega arith; apart = λ e. omega arith }
 
 -- number 5
-pub turned_known : {ss ts : List ℕ} → Joined ss → turn_count (plan_of 0 ss ts) ≤ 768 → Clear (turn_bad (plan_of 0 ss ts)) (turn_count (plan_of 0 ss ts)) → Turned ss ts
-turned_known {ss} {ts} joined l c = record { few = l; each = λ t h. at t (c.below t h) }
+pub turned_known : {ss ts : List ℕ} → Joined ss → turn_count (plan_of 0 ss ts) ≤ 768 → NoneBelow (turn_bad (plan_of 0 ss ts)) (turn_count (plan_of 0 ss ts)) → Turned ss ts
+turned_known {ss} {ts} joined l c = record { few = l; each = λ t h. at t (as_tests (turn_bad (plan_of 0 ss ts)) c t h) }
   where
     either : (b : Bool) (x y : ℕ) → x < 768 → y < 768 → cond b x y < 768
     either true x y h g = h
@@ -65,10 +69,10 @@ module _ (y : Plan) (e : verdict (plan_checks y) ≡ passed) where
   counts_good = let h = simp tests at (rows.0 0 (omega arith)) in (omega arith, omega arith, omega arith)
 
   pub plan_joined : Joined y.sections
-  plan_joined = joined_known {v = y.points} counts_good.0 counts_good.1 (record { below = rows.1.0 })
+  plan_joined = joined_known {v = y.points} counts_good.0 counts_good.1 (λ k l. fails_says (section_bad y k) (rows.1.0 k l))
 
   pub plan_turned : Turned y.sections y.turns
-  plan_turned = turned_known plan_joined counts_good.2 (record { below = rows.1.1.1.1.0 })
+  plan_turned = turned_known plan_joined counts_good.2 (λ k l. fails_says (turn_bad y k) (rows.1.1.1.1.0 k l))
 
   -- a number that is no point of the plan has no sections, so not over three
   no_sections : (p : ℕ) → y.points ≤ p → degree y p ≤ 3

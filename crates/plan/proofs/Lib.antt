@@ -1,4 +1,5 @@
 -- The laws that the proofs of this crate's functions share, and those that its callers' proofs cite.
+pub mod Finding
 pub mod Looking
 pub mod Counting
 pub mod Touching
@@ -8,4 +9,3 @@ pub mod Nearby
 pub mod PointMarks
 pub mod Rows
 pub mod Known
-pub mod Answers

@@ -1,71 +1,40 @@
--- A loop that looks for the first number at which a test holds: what it keeps, and what it has found.
+-- The first number at which a test holds: what a loop keeps that looks for it, and what it means for a verdict.
 -- Assumes nothing.
-use mathlib.Core.Path.{◌≡◌, sym}
-use mathlib.Core.Bool.{Bool, true, false, not}
-use Prim.Native.Nat.{ℕ, ◌+◌, ◌≤◌, ◌<◌}
-use native.Mathlib.Omega.{arith}
-use borrow.Author.Tests.{not-true, not-false}
-use lib.Dec.{T, ltb, ltb→lt}
-use Rattle.rules.specs.Ranges.{first_where, some_of}
-use Rattle.rules.proofs.Tests.{tests, clash, gives_true, gives_false, says_true, says_false}
-use Rattle.rules.proofs.Ranges.{some_T, T_some, Least, hit, past, least, first_is, first_past, one_more}
+use Rattle.std.proofs.Common.{◌≡◌, ℕ, ◌+◌, ◌<◌, Bool, true, false, not, List, ◌∷◌, sym, ◌∙◌, arith, below_more, Option, None, Some}
+use lib.Dec.{T}
+use Rattle.rules.specs.Ranges.{some_of}
+use Rattle.rules.specs.Refusals.{Verdict, Check, refused_at, verdict}
+use Rattle.rules.proofs.Tests.{clash, gives_true, gives_false}
+use Rattle.rules.proofs.Ranges.{some_T, T_some, first_is, first_past}
+use Rattle.rules.proofs.Verdicts.{refuses, goes_on}
+use Rattle.plan.specs.Lent.{NoneBelow, First}
 
--- the test fails at each number below i
-pub record Clear (f : ℕ → Bool) (i : ℕ) : Type 0 where
-  pub below : (h : ℕ) → h < i → T (not (f h))
+pub none_at_first : (f : ℕ → Bool) → NoneBelow f 0
+none_at_first f k l = absurd (omega arith)
 
--- the loop has come to i on its way to n, which is m, and has found nothing
-pub record Sought (f : ℕ → Bool) (m n i : ℕ) : Type 0 where
-  pub end : n ≡ m
-  pub within : i ≤ n
-  pub clear : Clear f i
+-- r is the value of the test at i
+pub none_more : (f : ℕ → Bool) {i : ℕ} {r : Bool} → NoneBelow f i → r ≡ f i → r ≡ false → NoneBelow f (i + 1)
+none_more f h e q = below_more (λ k. f k ≡ false) _ h (sym e ∙ q)
 
-pub sought_none : {f : ℕ → Bool} {m n : ℕ} → n ≡ m → Sought f m n 0
-sought_none e = record { end = e; within = omega arith; clear = record { below = λ h l. absurd (omega arith) } }
+pub as_tests : (f : ℕ → Bool) {n : ℕ} → NoneBelow f n → (k : ℕ) → k < n → T (not (f k))
+as_tests f h k l = rw (h k l) tt
 
--- a turn of the loop: r is the value of the test at i
-module _ {f : ℕ → Bool} {m n i : ℕ} {r : Bool} (s : Sought f m n i) (l : i < n) (e : r ≡ f i) where
-  pub sought_more : r ≡ false → Sought f m n (i + 1)
-  sought_more q =
-      record { end = s.end; within = omega arith; clear = record { below = one_more f s.clear.below (says_false (f i) q e) } }
+module _ (f : ℕ → Bool) {n : ℕ} where
+  pub some_below : {i : ℕ} → i < n → f i ≡ true → true ≡ some_of f 0 n
+  some_below {i} l e = gives_true (T_some f 0 n i (omega arith) (omega arith) (rw e tt))
 
-  pub found : r ≡ true → i ≡ first_where f 0 m
-  found q = sym (first_is f m i (omega (arith, s.end)) (says_true (f i) q e) s.clear.below)
+  pub none_below : NoneBelow f n → false ≡ some_of f 0 n
+  none_below h = gives_false (λ t. let w = some_T f 0 n t in clash (f w.0) w.2 (as_tests f h w.0 (omega (arith, w.1))))
 
-  pub some_found : r ≡ true → true ≡ some_of f 0 m
-  some_found q = gives_true (T_some f 0 m i (omega arith) (omega (arith, s.end)) (says_true (f i) q e))
+-- the same first number for tests that agree
+pub first_same : {f g : ℕ → Bool} {n : ℕ} (r : Option ℕ) → ((k : ℕ) → k < n → f k ≡ g k) → First f n r → First g n r
+first_same None same h = λ k l. sym (same k l) ∙ h k l
+first_same (Some i) same h = (h.0, sym (same i h.0) ∙ h.1, λ k l. sym (same k (omega (arith, h.0))) ∙ h.2 k l)
 
--- the loop's end
-module _ {f : ℕ → Bool} {m n i : ℕ} (s : Sought f m n i) (g : n ≤ i) where
-  at_end : i ≡ m
-  at_end = omega (arith, s.end, s.within)
+-- a row of the list of refusals gives the verdict where it applies, and else leaves it to the rows below
+module _ (c : Check) (cs : List Check) where
+  pub row_refuses : {i : ℕ} → First c.bad c.places (Some i) → refused_at c.number i ≡ verdict (c ∷ cs)
+  row_refuses {i} h = sym (refuses c cs i (sym (first_is c.bad c.places i h.0 (rw h.1 tt) (as_tests c.bad h.2))) h.0)
 
-  pub not_found : i ≡ first_where f 0 m
-  not_found = rw at_end (sym (first_past f m (rw at_end at s.clear.below)))
-
-  pub none_found : false ≡ some_of f 0 m
-  none_found = gives_false (λ t. let w = some_T f 0 m t in clash (f w.0) w.2 (s.clear.below w.0 (omega (arith, w.1, at_end))))
-
--- r is the test whether i is below n
-module _ {i n : ℕ} {r : Bool} (e : r ≡ ltb i n) where
-  pub below_end : not r ≡ false → i < n
-  below_end t = ltb→lt i n (says_true (ltb i n) (not-false r t) e)
-
-  pub past_end : not r ≡ true → n ≤ i
-  past_end t = let h = simp tests at (says_false (ltb i n) (not-true r t) e) in omega arith
-
--- where the first number is past the end, the test fails at each; and tests that agree have the same first number
-pub all_clear : (f : ℕ → Bool) (m : ℕ) {k n : ℕ} → k ≡ first_where f 0 m → n ≡ m → n ≤ k → Clear f m
-all_clear f m {k} {n} e q l = go (least f 0 m)
-  where
-    go : Least f 0 m (first_where f 0 m) → Clear f m
-    go (hit u v t b) = absurd (omega arith)
-    go (past z b) = record { below = λ h w. b h (omega arith) (omega arith) }
-
-pub first_same : (f g : ℕ → Bool) (m : ℕ) → ((h : ℕ) → h < m → f h ≡ g h) → first_where f 0 m ≡ first_where g 0 m
-first_same f g m same = go (least f 0 m)
-  where
-    go : {k : ℕ} → Least f 0 m k → k ≡ first_where g 0 m
-    go {k} (hit u v t b) =
-        sym (first_is g m k (omega arith) (rw (same k (omega arith)) at t) (λ h w. rw (same h (omega arith)) at (b h (omega arith) w)))
-    go (past z b) = let c = first_past g m (λ h w. rw (same h w) at (b h (omega arith) (omega arith))) in omega arith
+  pub row_passes : First c.bad c.places None → {v : Verdict} → v ≡ verdict cs → v ≡ verdict (c ∷ cs)
+  row_passes h r = r ∙ sym (goes_on c cs c.places (sym (first_past c.bad c.places (as_tests c.bad h))) (omega arith))

@@ -12,86 +12,72 @@ mod tables;
 pub mod turn;
 
 ghost use Rattle.std.specs.Prelude.{◌≡◌, ◌≤◌, drop};
-ghost use Rattle.rules.specs.Plan.{plan_of, turn_count};
+ghost use Rattle.rules.specs.Plan.{turn_count};
 ghost use Rattle.rules.specs.Refusals.{verdict, passed};
+ghost use Rattle.rules.specs.Refused.{verdict_in};
 ghost use Rattle.rules.specs.PlanCheck.{plan_checks};
 ghost use Rattle.plan.specs.Ends.{Joined, AtMostThree, Slots, no_slots};
-ghost use Rattle.plan.specs.Answer.{checked_of};
+ghost use Rattle.plan.specs.Lent.{plan_lent};
 
-use degree::{degrees, first_bad_degree};
-use doubled::first_doubled;
-use own_rule::first_bad_section;
-use read::{section_count, turn_count};
-use second_turn::first_second_turn;
+pub use read::Plan;
+use rules::refusal::Refusal;
 use slots::NO_SECTION;
-use tables::tables_good;
-use turn::first_bad_turn;
 
-// What the check of a plan finds: nothing, or a refusal's number and place.
-#[derive(Clone, Copy)]
-pub enum Checked {
-    Passed,
-    Refused(u32, u32),
-}
+impl Plan<'_> {
+    // Refusals 5 and 6.
+    fn check_turns(&self) -> Result<(), Refusal>
+        requires joined { Joined self.now.sections.now }
+        requires few { turn_count (plan_lent self.now) ≤ 768 }
+        ensures { verdict_in result ≡ verdict (drop 4 (plan_checks (plan_lent self.now))) }
+    {
+        if let Some(turn) = self.first_bad_turn() {
+            return Err(Refusal::Turn(turn));
+        }
+        if let Some(turn) = self.first_second_turn() {
+            return Err(Refusal::SecondTurn(turn));
+        }
+        Ok(())
+    }
 
-// Refusals 5 and 6.
-fn check_turns(sections: &[u32], turns: &[u32]) -> Checked
-    requires { Joined sections.now × (turn_count (plan_of 0 sections.now turns.now) ≤ 768) }
-    ensures { result ≡ checked_of (verdict (drop 4 (plan_checks (plan_of 0 sections.now turns.now)))) }
-{
-    let count = turn_count(turns);
-    let bad = first_bad_turn(sections, turns);
-    if bad < count {
-        return Checked::Refused(5, bad);
+    // Refusals 3 and 4, and then those of the turns.
+    fn check_ends(&self, slots: &mut [u32; 2304]) -> Result<(), Refusal>
+        requires points { self.now.points ≤ 768 }
+        requires joined { Joined self.now.sections.now }
+        requires few { turn_count (plan_lent self.now) ≤ 768 }
+        requires empty { slots.old ≡ no_slots }
+        ensures answer { verdict_in result ≡ verdict (drop 2 (plan_checks (plan_lent self.now))) }
+        ensures slotted { AtMostThree self.now.sections.now → Slots self.now.sections.now slots.new }
+    {
+        let degrees = self.degrees();
+        if let Some(section) = self.first_doubled(&degrees, slots) {
+            return Err(Refusal::Doubled(section));
+        }
+        if let Some(point) = self.first_bad_degree(&degrees) {
+            return Err(Refusal::Degree(point));
+        }
+        self.check_turns()
     }
-    let second = first_second_turn(sections, turns);
-    if second < count {
-        return Checked::Refused(6, second);
-    }
-    Checked::Passed
-}
 
-// Refusals 3 and 4, and then those of the turns.
-fn check_ends(points: u32, sections: &[u32], turns: &[u32], slots: &mut [u32; 2304]) -> Checked
-    requires { (points ≤ 768) × Joined sections.now × (turn_count (plan_of 0 sections.now turns.now) ≤ 768) × (slots.old ≡ no_slots) }
-    ensures { (result ≡ checked_of (verdict (drop 2 (plan_checks (plan_of points sections.now turns.now))))) × (AtMostThree sections.now → Slots sections.now slots.new) }
-{
-    let counts = degrees(sections);
-    let twin = first_doubled(sections, &counts, slots);
-    if twin < section_count(sections) {
-        return Checked::Refused(3, twin);
+    // The plan check, which fills the slots of a plan that passes.
+    pub fn check_and_index(&self, slots: &mut [u32; 2304]) -> Result<(), Refusal>
+        requires { slots.old ≡ no_slots }
+        ensures answer { verdict_in result ≡ verdict (plan_checks (plan_lent self.now)) }
+        ensures slotted { verdict (plan_checks (plan_lent self.now)) ≡ passed → Slots self.now.sections.now slots.new }
+    {
+        if !self.tables_good() {
+            return Err(Refusal::Tables);
+        }
+        if let Some(section) = self.first_bad_section() {
+            return Err(Refusal::Section(section));
+        }
+        self.check_ends(slots)
     }
-    let point = first_bad_degree(points, &counts);
-    if point < points {
-        return Checked::Refused(4, point);
-    }
-    check_turns(sections, turns)
-}
 
-// The plan check, which fills the slots of a plan that passes.
-pub fn check_and_index(
-    points: u32,
-    sections: &[u32],
-    turns: &[u32],
-    slots: &mut [u32; 2304],
-) -> Checked
-    requires { slots.old ≡ no_slots }
-    ensures { (result ≡ checked_of (verdict (plan_checks (plan_of points sections.now turns.now)))) × (verdict (plan_checks (plan_of points sections.now turns.now)) ≡ passed → Slots sections.now slots.new) }
-{
-    if !tables_good(points, sections, turns) {
-        return Checked::Refused(1, 0);
+    // The plan check: any numbers, any lengths of the two tables.
+    pub fn check(&self) -> Result<(), Refusal>
+        ensures { verdict_in result ≡ verdict (plan_checks (plan_lent self.now)) }
+    {
+        let mut slots = [NO_SECTION; 2304];
+        self.check_and_index(&mut slots)
     }
-    let bad = first_bad_section(points, sections);
-    if bad < section_count(sections) {
-        return Checked::Refused(2, bad);
-    }
-    check_ends(points, sections, turns, slots)
-}
-
-// The plan check: any numbers, any lengths of the two tables.
-pub fn check_plan(points: u32, sections: &[u32], turns: &[u32]) -> Checked
-    ensures { result ≡ checked_of (verdict (plan_checks (plan_of points sections.now turns.now))) }
-{
-    let mut slots = [NO_SECTION; 2304];
-    check_and_index(points, sections, turns, &mut slots)
 }

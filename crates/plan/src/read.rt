@@ -1,7 +1,7 @@
-// The numbers of a section and of a turn, read from their tables. Outside its table a number is 0, so no reader asks
-// anything of its caller.
-ghost use Rattle.std.specs.Prelude.{◌≡◌, [], ◌<◌, ltb, get_or};
-ghost use Rattle.rules.specs.Plan.{plan_of, of_sections, section_count, turn_count, field, free_at, turn_section};
+// A plan as it is lent, and the numbers of its sections and turns. Outside its table a number is 0, so no reader asks anything of its caller.
+ghost use Rattle.std.specs.Prelude.{◌≡◌, ◌<◌, ltb, get_or};
+ghost use Rattle.rules.specs.Plan.{section_count, turn_count, field, free_at, turn_section};
+ghost use Rattle.plan.specs.Lent.{plan_lent};
 
 // A section's six numbers, in their order.
 pub const END_A: u32 = 0;
@@ -16,65 +16,63 @@ pub const FREE_A: u32 = 4;
 
 pub const FREE_B: u32 = 5;
 
-// A number of a table as an index.
-pub fn wide(x: u32) -> usize
-    ensures { (result ≡ x) × (result < 4294967296) }
-{
-    x as usize
+// How many points there are, six numbers for each section, and two for each turn.
+#[derive(Clone, Copy)]
+pub struct Plan<'a> {
+    pub points: u32,
+    pub sections: &'a [u32],
+    pub turns: &'a [u32],
 }
 
 // The number that stands at an index.
 fn number_at(table: &[u32], at: usize) -> u32
     ensures { result ≡ get_or table.now at 0 }
 {
-    if at < table.len() {
-        return table[at];
+    table.get(at).copied().unwrap_or(0)
+}
+
+impl Plan<'_> {
+    // Number k of section s.
+    pub fn number(&self, s: u32, k: u32) -> u32
+        ensures { result ≡ field (plan_lent self.now) s k }
+    {
+        number_at(self.sections, 6 * s as usize + k as usize)
     }
-    0
-}
 
-// Number k of section s.
-pub fn section_number(sections: &[u32], s: u32, k: u32) -> u32
-    ensures { result ≡ field (of_sections sections.now) s k }
-{
-    number_at(sections, 6 * wide(s) + wide(k))
-}
+    // The free length of section s from its end e (0 = A, 1 = B).
+    pub fn free_at(&self, s: u32, e: u32) -> u32
+        ensures { result ≡ free_at (plan_lent self.now) s e }
+    {
+        number_at(self.sections, 6 * s as usize + (4 + e as usize))
+    }
 
-// The free length of section s from its end e (0 = A, 1 = B).
-pub fn free_at(sections: &[u32], s: u32, e: u32) -> u32
-    ensures { result ≡ free_at (of_sections sections.now) s e }
-{
-    number_at(sections, 6 * wide(s) + (4 + wide(e)))
-}
+    // Number k of turn t: its first section, or its second.
+    pub fn turn_number(&self, t: u32, k: u32) -> u32
+        ensures { result ≡ turn_section (plan_lent self.now) t k }
+    {
+        number_at(self.turns, 2 * t as usize + k as usize)
+    }
 
-// Number k of turn t: its first section, or its second.
-pub fn turn_number(turns: &[u32], t: u32, k: u32) -> u32
-    ensures { result ≡ turn_section (plan_of 0 [] turns.now) t k }
-{
-    number_at(turns, 2 * wide(t) + wide(k))
-}
+    // How many sections the table holds.
+    pub fn section_count(&self) -> u32
+        requires { section_count (plan_lent self.now) < 4294967296 }
+        ensures { result ≡ section_count (plan_lent self.now) }
+    {
+        (self.sections.len() / 6) as u32
+    }
 
-// How many sections the table holds.
-pub fn section_count(sections: &[u32]) -> u32
-    requires { section_count (of_sections sections.now) < 4294967296 }
-    ensures { result ≡ section_count (of_sections sections.now) }
-{
-    let count = sections.len() / 6;
-    count as u32
-}
+    // How many turns the table holds.
+    pub fn turn_count(&self) -> u32
+        requires { turn_count (plan_lent self.now) < 4294967296 }
+        ensures { result ≡ turn_count (plan_lent self.now) }
+    {
+        (self.turns.len() / 2) as u32
+    }
 
-// How many turns the table holds.
-pub fn turn_count(turns: &[u32]) -> u32
-    requires { turn_count (plan_of 0 [] turns.now) < 4294967296 }
-    ensures { result ≡ turn_count (plan_of 0 [] turns.now) }
-{
-    let count = turns.len() / 2;
-    count as u32
-}
-
-// There is a section of this number. Its last number is tested, so that a compiler knows the others to be inside too.
-pub fn has_section(sections: &[u32], s: u32) -> bool
-    ensures { result ≡ ltb s (section_count (of_sections sections.now)) }
-{
-    6 * wide(s) + 5 < sections.len()
+    // There is a section of this number. Its last number is tested, so that a compiler knows the others to be inside too.
+    pub fn has_section(&self, s: u32) -> bool
+        ensures { result ≡ ltb s (section_count (plan_lent self.now)) }
+    {
+        6 * s as usize + 5 < self.sections.len()
+    }
 }

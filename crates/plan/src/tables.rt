@@ -1,28 +1,20 @@
 // Refusal 1: the counts are in range, and each table is made of whole rows.
 ghost use Rattle.std.specs.Prelude.{◌≡◌};
-ghost use Rattle.rules.specs.Plan.{plan_of};
 ghost use Rattle.rules.specs.PlanCheck.{tables_good};
+ghost use Rattle.plan.specs.Lent.{plan_lent};
 
-pub fn tables_good(points: u32, sections: &[u32], turns: &[u32]) -> bool
-    ensures { result ≡ tables_good (plan_of points sections.now turns.now) }
-{
-    if points < 1 {
-        return false;
+use crate::read::Plan;
+
+impl Plan<'_> {
+    pub(crate) fn tables_good(&self) -> bool
+        ensures { result ≡ tables_good (plan_lent self.now) }
+    {
+        let sections = self.sections.len();
+        let turns = self.turns.len();
+        (1..=768).contains(&self.points)
+            && (1..=1024).contains(&(sections / 6))
+            && turns / 2 <= 768
+            && sections % 6 == 0
+            && turns % 2 == 0
     }
-    if 768 < points {
-        return false;
-    }
-    if sections.len() / 6 < 1 {
-        return false;
-    }
-    if 1024 < sections.len() / 6 {
-        return false;
-    }
-    if 768 < turns.len() / 2 {
-        return false;
-    }
-    if sections.len() % 6 != 0 {
-        return false;
-    }
-    turns.len() % 2 == 0
 }

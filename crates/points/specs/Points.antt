@@ -1,60 +1,48 @@
--- Sets of points: how a set is kept, and which points are in it. No contract of another crate speaks of a set but through `Whole`,
--- `member`, and `kept` of a set in a table.
+-- Sets of points: which points are in a set, and which points words keep. No contract of another crate speaks of a set but through `member`,
+-- and of its words but through `kept`.
 -- Assumes nothing.
-use Rattle.std.specs.Prelude.{◌≡◌, ◌⊎◌, Bool, false, not, ◌&&◌, ◌||◌, List, ℕ, ◌+◌, ◌/◌, ◌%◌, ◌^◌, ◌≤◌, ◌<◌, T, eqb, ltb, length, get_or}
+use Rattle.std.specs.Prelude.{◌≡◌, Bool, false, not, ◌&&◌, ◌||◌, List, ℕ, ◌/◌, ◌%◌, ◌≤◌, ◌<◌, T, eqb, length, take, get_or}
+use Rattle.std.specs.Int.{bit_at}
 use Rattle.rules.proofs.Ways.{mark}
+use Rattle.points.specs.declared.Points.{Points}
 
--- these words keep a bit, put or not, for each of the 768 points
-unfoldable pub Whole : List ℕ → Type 0
-Whole ws = length ws ≡ 24
+-- words keep the point k: bit k % 32 of word k / 32 is put; past the last word there is none
+unfoldable pub kept : List ℕ → ℕ → Bool
+kept ws k = eqb (bit_at (get_or ws (k / 32) 0) (k % 32)) 1
 
--- bit b of the word w
-abbrev pub bit : ℕ → ℕ → ℕ
-bit w b = w / 2 ^ b % 2
-
--- the point k is in the set: bit k % 32 of word k / 32 is put
-unfoldable pub member : List ℕ → ℕ → Bool
-member ws k = eqb (bit (get_or ws (k / 32) 0) (k % 32)) 1
+-- the point k is in the set
+unfoldable pub member : Points → ℕ → Bool
+member s k = kept s.words k
 
 -- no point is in the set
-pub record Empty (ws : List ℕ) : Type 0 where
-  pub whole : Whole ws
-  pub members : (k : ℕ) → member ws k ≡ false
+pub record Empty (s : Points) : Type 0 where
+  pub members : (k : ℕ) → member s k ≡ false
 
--- the set rs has the points of ws, and p
-pub record Put (ws : List ℕ) (p : ℕ) (rs : List ℕ) : Type 0 where
-  pub whole : Whole rs
-  pub members : (k : ℕ) → member rs k ≡ mark p (member ws) k
+-- the set r has the points of s, and p
+pub record Put (s : Points) (p : ℕ) (r : Points) : Type 0 where
+  pub members : (k : ℕ) → member r k ≡ mark p (member s) k
 
 -- every point of the one set is in the other
 abbrev pub Among : (ℕ → Bool) → (ℕ → Bool) → Type 0
 Among f g = (k : ℕ) → T (f k) → T (g k)
 
--- the set rs has the points of ws but p
-pub record Taken (ws : List ℕ) (p : ℕ) (rs : List ℕ) : Type 0 where
-  pub whole : Whole rs
-  pub members : (k : ℕ) → member rs k ≡ (not (eqb k p) && member ws k)
+-- the set r has the points of s but p
+pub record Taken (s : Points) (p : ℕ) (r : Points) : Type 0 where
+  pub members : (k : ℕ) → member r k ≡ (not (eqb k p) && member s k)
 
--- the set rs has the points of ws and those of us
-pub record Added (ws us rs : List ℕ) : Type 0 where
-  pub whole : Whole rs
-  pub members : (k : ℕ) → member rs k ≡ (member ws k || member us k)
+-- the set r has the points of s and those of u
+pub record Added (s u r : Points) : Type 0 where
+  pub members : (k : ℕ) → member r k ≡ (member s k || member u k)
 
 -- all points of the set lie in its first n words
-pub record Narrow (ws : List ℕ) (n : ℕ) : Type 0 where
+pub record Narrow (s : Points) (n : ℕ) : Type 0 where
   pub low : n ≤ 24
-  pub members : (k : ℕ) → T (member ws k) → k / 32 < n
+  pub members : (k : ℕ) → T (member s k) → k / 32 < n
 
--- the point k is in the set that n words of a table keep, from place i on
-unfoldable pub kept : List ℕ → ℕ → ℕ → ℕ → Bool
-kept table i n k = ltb (k / 32) n && eqb (bit (get_or table (i + k / 32) 0) (k % 32)) 1
+-- the set r has the points that these words keep
+pub record Loaded (ws : List ℕ) (r : Points) : Type 0 where
+  pub members : (k : ℕ) → member r k ≡ kept ws k
 
--- the set rs has the points that n words of the table keep, from place i on
-pub record Loaded (table : List ℕ) (i n : ℕ) (rs : List ℕ) : Type 0 where
-  pub whole : Whole rs
-  pub members : (k : ℕ) → member rs k ≡ kept table i n k
-
--- the table m is b, but that from place i on it has the first n words of the set ws
-pub record Saved (ws b : List ℕ) (i n : ℕ) (m : List ℕ) : Type 0 where
-  pub words : (j : ℕ) → j < n → get_or m (i + j) 0 ≡ get_or ws j 0
-  pub others : (j : ℕ) → (j < i) ⊎ (i + n ≤ j) → get_or m j 0 ≡ get_or b j 0
+-- a place of as many words as b is filled with the first words of the set s, and is m then
+pub record Saved (s : Points) (b m : List ℕ) : Type 0 where
+  pub words : m ≡ take (length b) s.words

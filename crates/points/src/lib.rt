@@ -1,113 +1,100 @@
 // Sets of points: one bit for each of the 768 points, in 24 words of 32. What other crates know of a set is its members.
 #![tactic(auto)]
 
-ghost use Rattle.std.specs.Prelude.{◌≡◌, true, ◌+◌, ◌≤◌, ◌<◌, length};
-ghost use Rattle.points.specs.Points.{Whole, member, Empty, Put, Taken, Added, Narrow, Among, kept, Loaded, Saved};
+ghost use Rattle.std.specs.Prelude.{◌≡◌, true, ◌≤◌, ◌<◌, ◌↔◌, length};
+ghost use Rattle.points.specs.Points.{member, Empty, Put, Taken, Added, Narrow, Among, kept, Loaded, Saved};
 
-use plan::read::wide;
+use rules::copy::copy_into;
 
-// The set without a point.
-pub fn no_points() -> [u32; 24]
-    ensures { Empty result }
-{
-    let words = [0; 24];
-    words
+// A set of points.
+#[derive(Clone, Copy)]
+pub struct Points {
+    words: [u32; 24],
 }
 
-// The point p is in the set.
-pub fn has(words: &[u32; 24], p: u32) -> bool
-    requires { p < 768 }
-    ensures { result ≡ member words.now p }
-{
-    let word = words[wide(p >> 5)];
-    (word >> (p & 31)) & 1 == 1
-}
-
-// Puts the point p into the set.
-pub fn put(words: &mut [u32; 24], p: u32)
-    requires { Whole words.old × (p < 768) }
-    ensures { Put words.old p words.new }
-{
-    let at = wide(p >> 5);
-    words[at] = words[at] | (1 << (p & 31));
-}
-
-// Takes the point p out of the set.
-pub fn take(words: &mut [u32; 24], p: u32)
-    requires { Whole words.old × (p < 768) }
-    ensures { Taken words.old p words.new }
-{
-    let at = wide(p >> 5);
-    let bit = 1 << (p & 31);
-    words[at] = (words[at] | bit) ^ bit;
-}
-
-// Adds the points of another set.
-pub fn add(words: &mut [u32; 24], more: &[u32; 24])
-    requires { Whole words.old }
-    ensures { Added words.old more.now words.new }
-{
-    // read as a slice, which costs no instruction
-    let more = &more[..];
-    let mut i = 0;
-    while i < 24 {
-        words[i] = words[i] | more[i];
-        i += 1;
+impl Points {
+    // The set without a point.
+    pub fn none() -> Self
+        ensures { Empty result }
+    {
+        Points { words: [0; 24] }
     }
-}
 
-// So many words, from the first on, hold all points of the set.
-pub fn width(words: &[u32; 24]) -> usize
-    ensures { Narrow words.now result }
-{
-    // read as a slice, as in `add`
-    let words = &words[..];
-    let mut n = 24;
-    while 0 < n {
-        if words[n - 1] != 0 {
-            return n;
+    // The point p is in the set.
+    pub fn has(&self, p: u32) -> bool
+        requires { p < 768 }
+        ensures { result ≡ member self.now p }
+    {
+        let word = self.words[(p >> 5) as usize];
+        (word >> (p & 31)) & 1 == 1
+    }
+
+    // Puts the point p into the set.
+    pub fn put(&mut self, p: u32)
+        requires { p < 768 }
+        ensures { Put self.old p self.new }
+    {
+        self.words[(p >> 5) as usize] |= 1 << (p & 31);
+    }
+
+    // Takes the point p out of the set.
+    pub fn take(&mut self, p: u32)
+        requires { p < 768 }
+        ensures { Taken self.old p self.new }
+    {
+        self.words[(p >> 5) as usize] &= !(1 << (p & 31));
+    }
+
+    // Adds the points of another set.
+    pub fn add(&mut self, more: &Points)
+        ensures { Added self.old more.now self.new }
+    {
+        // read as a slice, which costs no instruction
+        let more = &more.words[..];
+        for (i, word) in self.words.iter_mut().enumerate() {
+            *word |= more[i];
         }
-        n -= 1;
     }
-    0
-}
 
-// Every point of the set that n words of a table keep, from this place on, is in this set.
-pub fn has_kept(words: &[u32; 24], table: &[u32], at: usize, n: usize) -> bool
-    requires { (n ≤ 24) × (at + n ≤ length table.now) }
-    ensures { result ≡ true → Among (kept table.now at n) (member words.now) }
-{
-    let mut i = 0;
-    while i < n {
-        let word = words[i];
-        if table[at + i] | word != word {
-            return false;
+    // So many words, from the first on, hold all points of the set.
+    pub fn width(&self) -> usize
+        ensures { Narrow self.now result }
+    {
+        // read as a slice, as in `add`
+        let words = &self.words[..];
+        for n in (0..words.len()).rev() {
+            if words[n] != 0 {
+                return n + 1;
+            }
         }
-        i += 1;
+        0
     }
-    true
-}
 
-// Puts the points of the set that n words of a table keep, from this place on, into a set without a point.
-pub fn load(words: &mut [u32; 24], table: &[u32], at: usize, n: usize)
-    requires { Empty words.old × (n ≤ 24) × (at + n ≤ length table.now) }
-    ensures { Loaded table.now at n words.new }
-{
-    let mut i = 0;
-    while i < n {
-        words[i] = table[at + i];
-        i += 1;
+    // Every point of the set whose first words these are is in this set.
+    pub fn has_all(&self, saved: &[u32]) -> bool
+        requires { length saved.now ≤ 24 }
+        ensures { result ≡ true ↔ Among (kept saved.now) (member self.now) }
+    {
+        self.words[..]
+            .iter()
+            .zip(saved)
+            .all(|(word, more)| *more | *word == *word)
     }
-}
 
-// Keeps the first n words of the set in a table, from this place on.
-pub fn save(words: &[u32; 24], table: &mut [u32], at: usize, n: usize)
-    requires { (n ≤ 24) × (at + n ≤ length table.old) }
-    ensures { Saved words.now table.old at n table.new }
-{
-    let mut i = 0;
-    while i < n {
-        table[at + i] = words[i];
-        i += 1;
+    // Puts the points of the set whose first words these are into a set without a point.
+    pub fn load(&mut self, saved: &[u32])
+        requires empty { Empty self.old }
+        requires few { length saved.now ≤ 24 }
+        ensures { Loaded saved.now self.new }
+    {
+        copy_into(saved, &mut self.words[..saved.len()]);
+    }
+
+    // Fills a place with the first words of the set.
+    pub fn save(&self, place: &mut [u32])
+        requires { length place.old ≤ 24 }
+        ensures { Saved self.now place.old place.new }
+    {
+        copy_into(&self.words[..place.len()], place);
     }
 }

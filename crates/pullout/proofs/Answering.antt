@@ -1,96 +1,76 @@
 -- The answers of the call for one pull-out, one law for each of its ends.
 -- Assumes nothing.
-use mathlib.Core.Path.{◌≡◌, refl, sym, ◌∙◌}
-use mathlib.Core.Logic.{◌≢◌}
-use mathlib.Core.Bool.{Bool, true, false, not}
-use mathlib.Core.List.{List, [], ◌∷◌, ◌++◌}
-use Prim.Native.Nat.{ℕ, ◌/◌, ◌≤◌, ◌<◌}
-use native.Mathlib.Omega.{arith}
+use Rattle.std.proofs.Common.{◌≡◌, refl, sym, ap, ◌∙◌, List, ◌++◌, ℕ, ◌/◌, ◌≤◌, ◌<◌, arith, length, take, drop, None, Some}
 use lib.Dec.{T}
-use lib.ListN.{length, take, drop}
 use lib.Seq.{take-append_seam}
 use Rattle.rules.specs.Ranges.{between}
-use Rattle.rules.specs.Plan.{plan_of, of_sections, to_point, forbidden}
-use Rattle.rules.specs.Refusals.{Check, refused_at, passed, once, verdict}
+use Rattle.rules.specs.Plan.{Plan, plan_of, of_sections, to_point, sec, forbidden}
+use Rattle.rules.specs.Refusals.{Verdict, Check, passed, verdict}
+use Rattle.rules.specs.Refused.{verdict_of}
+use Rattle.rules.specs.declared.refusal.Refusal.{Refusal}
+use Rattle.rules.specs.declared.refusal.Refusal.TheVariants.{NoPullOut, Buffer}
 use Rattle.rules.specs.PlanCheck.{plan_checks}
 use Rattle.rules.specs.PullAnswer.{Reversal, reversal_of, turn_asked, pull_checks, not_pulled, PullAnswer, refused, none_found, no_space, pulled}
-use Rattle.rules.proofs.Tests.{and_T, gives_true}
-use Rattle.rules.proofs.Verdicts.{refused_first, passed_first, refused_by, passed_by}
-use Rattle.plan.specs.declared.Checked.{Checked}
-use Rattle.plan.specs.declared.Checked.TheVariants.{Passed, Refused}
-use Rattle.plan.specs.Answer.{checked_of}
-use Rattle.plan.proofs.Answers.{answer_passes, answer_refuses}
+use Rattle.rules.proofs.Refused.{refusal_numbered}
+use Rattle.rules.proofs.Tests.{tests, not_not_iff, and_T, gives_true}
+use Rattle.rules.proofs.Verdicts.{refused_first, passed_first, passes, passes_both}
 use Rattle.turns.specs.Tables.{Arrived}
 use Rattle.tries.specs.Searched.{Searched, none_there, first_there}
 use Rattle.pullout.proofs.Asking.{met, both_there, comes}
 
+-- the rows after the plan's: refusals 7 and 15
+abbrev own_checks : Reversal → List Check
+own_checks w = drop 6 (pull_checks w)
+
+module _ (w : Reversal) where
+  pub plan_refused : (r : Refusal) (list : List ℕ) → verdict_of r ≡ verdict (plan_checks w.plan) → PullAnswer w list (not_pulled (verdict_of r) list)
+  plan_refused r list e =
+      refused (verdict_of r) (refused_first (plan_checks w.plan) (own_checks w) (λ z. refusal_numbered r (ap (λ (v : Verdict). v.number) e ∙ z)) ∙ sym e)
+      (refusal_numbered r) refl
+
+  module _ (ok : passed ≡ verdict (plan_checks w.plan)) where
+    own : verdict (pull_checks w) ≡ verdict (own_checks w)
+    own = passed_first (plan_checks w.plan) (own_checks w) tt (sym ok)
+
+    pub own_refused : (r : Refusal) (list : List ℕ) → verdict_of r ≡ verdict (own_checks w) → PullAnswer w list (not_pulled (verdict_of r) list)
+    own_refused r list e = refused (verdict_of r) (own ∙ sym e) (refusal_numbered r) refl
+
+  -- what has passed
+  module _ (ok : verdict (pull_checks w) ≡ passed) where
+    own_passed : T (between 1 w.train 20000) × T (turn_asked w)
+    own_passed =
+        let each = (passes_both (plan_checks w.plan) (own_checks w) (passes (pull_checks w) tt ok)).1 in
+        ((not_not_iff (between 1 w.train 20000)).0 (each.0 0 (omega arith)), (not_not_iff (turn_asked w)).0 (each.1.0 0 (omega arith)))
+
+    pub length_some : 0 < w.train
+    length_some = let h = simp tests at own_passed.0 in omega arith
+
 -- the arrival that is asked for comes to its point
-pub asked_arrives : (ss ts : List ℕ) (a s : ℕ) → T (turn_asked (reversal_of (plan_of 0 ss ts) 0 a s)) → Arrived ss (a / 2) (to_point (of_sections ss) a)
-asked_arrives ss ts a s t =
-    let u = and_T (met ss a s) (forbidden (plan_of 0 ss ts) (a / 2) s) t in
+pub asked_arrives : (v : ℕ) (ss ts : List ℕ) (l a s : ℕ) → verdict (pull_checks (reversal_of (plan_of v ss ts) l a s)) ≡ passed
+    → Arrived ss (a / 2) (to_point (of_sections ss) a)
+asked_arrives v ss ts l a s ok =
+    let u = and_T (met ss a s) (forbidden (plan_of 0 ss ts) (a / 2) s) (own_passed (reversal_of (plan_of v ss ts) l a s) ok).1 in
     comes ss a (both_there ss a s (gives_true u.0)).0
 
 -- what is found fits into the list that was lent for it
-pub found_low : {ss ts : List ℕ} {v need c p s n : ℕ} {b a : List ℕ} → Searched (plan_of v ss ts) need c p s b n a → n ≤ length b
-found_low (none_there i w no_way) = omega arith
-found_low (first_there qs i pos fit w f) = fit
-
--- the rows after the plan's: refusals 7 and 15
-abbrev own_checks : Reversal → List Check
-own_checks w = once 7 (not (between 1 w.train 20000)) ∷ once 15 (not (turn_asked w)) ∷ []
-
--- the plan's verdict, by the answer of its check
-module _ (w : Reversal) {r : Checked} (e : r ≡ checked_of (verdict (plan_checks w.plan))) where
-  pub plan_passes : r ≡ Passed → verdict (plan_checks w.plan) ≡ passed
-  plan_passes = answer_passes (plan_checks w.plan) tt e
-
-  pub plan_refused : {n p : ℕ} (list : List ℕ) → r ≡ Refused n p → PullAnswer w list (not_pulled (refused_at n p) list)
-  plan_refused {n} {p} list h =
-      let v = answer_refuses (plan_checks w.plan) tt e h in
-      refused (refused_at n p) (refused_first (plan_checks w.plan) (own_checks w) v.1 ∙ v.0) (rw v.0 at v.1) refl
-
--- where the plan has passed
-module _ (w : Reversal) (list : List ℕ) (ok : verdict (plan_checks w.plan) ≡ passed) where
-  own : verdict (pull_checks w) ≡ verdict (own_checks w)
-  own = passed_first (plan_checks w.plan) (own_checks w) tt ok
-
-  pub train_refused : {r : Bool} → r ≡ between 1 w.train 20000 → not r ≡ true → PullAnswer w list (not_pulled (refused_at 7 0) list)
-  train_refused e n =
-      refused (refused_at 7 0) (own ∙ sym (refused_by (between 1 w.train 20000) 7 (once 15 (not (turn_asked w)) ∷ []) e n)) (λ z. omega arith) refl
-
-  module _ {r : Bool} (e : r ≡ between 1 w.train 20000) (n : not r ≡ false) where
-    after_7 : verdict (pull_checks w) ≡ verdict (once 15 (not (turn_asked w)) ∷ [])
-    after_7 = own ∙ sym (passed_by (between 1 w.train 20000) 7 (once 15 (not (turn_asked w)) ∷ []) e n)
-
-    pub turn_refused : {q : Bool} → q ≡ turn_asked w → not q ≡ true → PullAnswer w list (not_pulled (refused_at 15 0) list)
-    turn_refused f m = refused (refused_at 15 0) (after_7 ∙ sym (refused_by (turn_asked w) 15 [] f m)) (λ z. omega arith) refl
-
-    pub all_passed : {q : Bool} → q ≡ turn_asked w → not q ≡ false → verdict (pull_checks w) ≡ passed
-    all_passed f m = after_7 ∙ sym (passed_by (turn_asked w) 15 [] f m)
+pub found_low : {y : Plan} {need c p s n : ℕ} {b a : List ℕ} → Searched y need c p s b (Some n) a → n ≤ length b
+found_low (none_there i w none) = absurd (cc)
+found_low {n} (first_there qs i fit w f) = let e : n ≡ length qs = cc in omega arith
 
 -- refusals 16 and 14, and the pull-out
-module _ {ss ts : List ℕ} {v l a s n : ℕ} {b f : List ℕ} (list : List ℕ) (x : Searched (plan_of v ss ts) l (a / 2) (to_point (of_sections ss) a) s b n f)
-    (ok : verdict (pull_checks (reversal_of (plan_of v ss ts) l a s)) ≡ passed) where
-  pub nothing_found : n ≡ 0 → PullAnswer (reversal_of (plan_of v ss ts) l a s) list (not_pulled (refused_at 16 0) list)
-  nothing_found = go x
-    where
-      go : Searched (plan_of v ss ts) l (a / 2) (to_point (of_sections ss) a) s b n f → n ≡ 0 → PullAnswer (reversal_of (plan_of v ss ts) l a s) list (not_pulled (refused_at 16 0) list)
-      go (none_there i w none) z = none_found ok none refl
-      go (first_there qs i pos fit w first) z = absurd (omega arith)
+module _ (w : Reversal) {b f : List ℕ} (list : List ℕ) (ok : verdict (pull_checks w) ≡ passed) where
+  pub nothing_found : Searched w.plan w.train (sec w.arrival) (to_point w.plan w.arrival) w.section b None f
+      → PullAnswer w list (not_pulled (verdict_of NoPullOut) list)
+  nothing_found (none_there i k none) = none_found ok none refl
+  nothing_found (first_there qs i fit k first) = absurd (cc)
 
-  pub too_long : n ≢ 0 → length list < n → PullAnswer (reversal_of (plan_of v ss ts) l a s) list (not_pulled (refused_at 14 0) list)
-  too_long = go x
-    where
-      go : Searched (plan_of v ss ts) l (a / 2) (to_point (of_sections ss) a) s b n f → n ≢ 0 → length list < n
-          → PullAnswer (reversal_of (plan_of v ss ts) l a s) list (not_pulled (refused_at 14 0) list)
-      go (none_there i w none) z k = absurd (z i)
-      go (first_there qs i pos fit w first) z k = no_space qs ok first (omega arith) refl
+  module _ {n : ℕ} where
+    pub too_long : Searched w.plan w.train (sec w.arrival) (to_point w.plan w.arrival) w.section b (Some n) f → length list < n
+        → PullAnswer w list (not_pulled (verdict_of Buffer) list)
+    too_long (none_there i k none) l = absurd (cc)
+    too_long (first_there qs i fit k first) l = let e : n ≡ length qs = cc in no_space qs ok first (omega arith) refl
 
-  pub written_out : n ≢ 0 → n ≤ length list
-      → PullAnswer (reversal_of (plan_of v ss ts) l a s) list (record { refusal = 0; place = 0; count = n; list = take n f ++ drop n list })
-  written_out = go x
-    where
-      go : Searched (plan_of v ss ts) l (a / 2) (to_point (of_sections ss) a) s b n f → n ≢ 0 → n ≤ length list
-          → PullAnswer (reversal_of (plan_of v ss ts) l a s) list (record { refusal = 0; place = 0; count = n; list = take n f ++ drop n list })
-      go (none_there i w none) z k = absurd (z i)
-      go (first_there qs i pos fit w first) z k = pulled qs ok first (omega arith) (rw (w, i, take-append_seam) refl)
+    pub written_out : Searched w.plan w.train (sec w.arrival) (to_point w.plan w.arrival) w.section b (Some n) f → n ≤ length list
+        → PullAnswer w list (record { refusal = 0; place = 0; count = n; list = take n f ++ drop n list })
+    written_out (none_there i k none) l = absurd (cc)
+    written_out (first_there qs i fit k first) l = let e : n ≡ length qs = cc in pulled qs ok first (omega arith) (rw (k, e, take-append_seam) refl)

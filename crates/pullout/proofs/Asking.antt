@@ -2,55 +2,29 @@
 -- Assumes nothing.
 use mathlib.Core.Path.{◌≡◌, sym, ◌∙◌}
 use mathlib.Core.Logic.{◌≢◌, ⊎_elim}
-use mathlib.Core.Bool.{Bool, true, false, not, ◌&&◌}
+use mathlib.Core.Bool.{Bool, true, false, ◌&&◌}
 use mathlib.Core.List.{List}
 use Prim.Native.Nat.{ℕ, ◌*◌, ◌/◌, ◌%◌, ◌<◌}
 use native.Mathlib.Omega.{arith}
-use borrow.Author.Tests.{not-true, not-false}
-use lib.Dec.{T, eqb, eqb_refl, ltb, ltb→lt, lt→ltb}
+use lib.Dec.{T, eqb, eqb_refl, ltb, ltb→lt}
 use Rattle.rules.specs.Plan.{plan_of, of_sections, section_count, turn_count, end_A, end_B, field, touches, arrivals, to_point, forbidden}
 use Rattle.rules.specs.PullAnswer.{reversal_of, turn_asked}
-use Rattle.rules.proofs.Tests.{and_T, T_or_left, T_or_right, gives_false, gives_same}
+use Rattle.rules.proofs.Tests.{and_T, T_or_left, T_or_right, gives_false}
 use Rattle.rules.proofs.Ranges.{some_T}
-use Rattle.rules.proofs.Branches.{and_on, and_off}
+use Rattle.rules.proofs.Branches.{and_on}
 use Rattle.rules.proofs.Sound.{sound_plan, at_both_ends}
 use Rattle.rules.proofs.TurnPoints.{is_turn, turn_cases}
+use Rattle.std.proofs.Common.{Option}
+use Rattle.turns.specs.declared.yard.Turn.{Turn}
 use Rattle.turns.specs.Tables.{Passes, TurnTable, forbidden_by, Arrived}
 use Rattle.turns.proofs.TurnsByPoint.{by_table}
 use Rattle.turns.proofs.Entering.{arrived_low}
-
--- a test r of b whose other value was asked for
-pub was_false : {r b : Bool} → r ≡ b → not r ≡ true → false ≡ b
-was_false {r} e n = sym (not-true r n) ∙ e
-
-pub was_true : {r b : Bool} → r ≡ b → not r ≡ false → true ≡ b
-was_true {r} e n = sym (not-false r n) ∙ e
-
--- an arrival is one of the plan's where its section is
-pub half_low : (a n : ℕ) → ltb (a / 2) n ≡ ltb a (2 * n)
-half_low a n = gives_same (λ t. let h = ltb→lt (a / 2) n t in lt→ltb a (2 * n) (omega arith)) (λ t. let h = ltb→lt a (2 * n) t in lt→ltb (a / 2) n (omega arith))
 
 -- there are such an arrival and such a section, and they meet
 abbrev pub met : List ℕ → ℕ → ℕ → Bool
 met ss a s = ltb a (arrivals (of_sections ss)) && ltb s (section_count (of_sections ss)) && touches (of_sections ss) s (to_point (of_sections ss) a)
 
 module _ (ss : List ℕ) (a s : ℕ) where
-  -- the tests, as they are made
-  pub no_arrival : {r : Bool} → r ≡ ltb (a / 2) (section_count (of_sections ss)) → not r ≡ true → false ≡ met ss a s
-  no_arrival e n =
-      and_off (touches (of_sections ss) s (to_point (of_sections ss) a))
-      (and_off (ltb s (section_count (of_sections ss))) (was_false (e ∙ half_low a (section_count (of_sections ss))) n))
-
-  module _ {r : Bool} (e : r ≡ ltb (a / 2) (section_count (of_sections ss))) (n : not r ≡ false) where
-    pub no_such_section : {q : Bool} → q ≡ ltb s (section_count (of_sections ss)) → not q ≡ true → false ≡ met ss a s
-    no_such_section f m =
-        and_off (touches (of_sections ss) s (to_point (of_sections ss) a))
-        (and_on (was_true (e ∙ half_low a (section_count (of_sections ss))) n) (was_false f m))
-
-    pub meet_there : {q t : Bool} {p : ℕ} → q ≡ ltb s (section_count (of_sections ss)) → not q ≡ false → p ≡ to_point (of_sections ss) a
-        → t ≡ touches (of_sections ss) s p → t ≡ met ss a s
-    meet_there f m i g = and_on (and_on (was_true (e ∙ half_low a (section_count (of_sections ss))) n) (was_true f m)) (rw i at g)
-
   pub both_there : true ≡ met ss a s → (a / 2 < section_count (of_sections ss)) × Arrived ss s (to_point (of_sections ss) a)
   both_there e =
       let n = section_count (of_sections ss) in
@@ -74,7 +48,7 @@ comes ss a l =
     z : ℕ
     z = end_B (of_sections ss) (a / 2)
 
-module _ {ss ts table : List ℕ} (a s : ℕ) (ok : Passes ss ts) (made : TurnTable ss ts table) (m : true ≡ met ss a s) where
+module _ {ss ts : List ℕ} (a s : ℕ) (ok : Passes ss ts) (m : true ≡ met ss a s) where
   pub asked_low : to_point (of_sections ss) a < 768
   asked_low = arrived_low ok (both_there ss a s m).1
 
@@ -89,6 +63,5 @@ module _ {ss ts table : List ℕ} (a s : ℕ) (ok : Passes ss ts) (made : TurnTa
           (sound.each_turn w.0 (omega (arith, w.1))).differ
           (⊎_elim (λ i. i.0 ∙ e ∙ sym i.1) (λ i. i.0 ∙ sym e ∙ sym i.1) (turn_cases (plan_of 0 ss ts) (a / 2) s w.0 w.2))
 
-  pub asked_turn : {p : ℕ} {b : Bool} → p ≡ to_point (of_sections ss) a → a / 2 ≢ s → b ≡ forbidden_by table p (a / 2) s
-      → b ≡ turn_asked (reversal_of (plan_of 0 ss ts) 0 a s)
-  asked_turn i n e = and_on m ((rw i at e) ∙ by_table ok made asked_low (comes ss a (both_there ss a s m).0) (both_there ss a s m).1 n)
+  pub asked_turn : {table : List (Option Turn)} → TurnTable ss ts table → a / 2 ≢ s → forbidden_by table (to_point (of_sections ss) a) (a / 2) s ≡ turn_asked (reversal_of (plan_of 0 ss ts) 0 a s)
+  asked_turn made n = and_on m (by_table ok made asked_low (comes ss a (both_there ss a s m).0) (both_there ss a s m).1 n)

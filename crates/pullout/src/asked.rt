@@ -1,50 +1,60 @@
-// What is asked for: refusal 15.
-ghost use Rattle.std.specs.Prelude.{◌≡◌, ◌&&◌, ltb};
-ghost use Rattle.rules.specs.Plan.{plan_of, of_sections, section_count, arrivals, to_point, touches};
-ghost use Rattle.rules.specs.PullAnswer.{reversal_of, turn_asked};
-ghost use Rattle.turns.specs.Tables.{Passes, TurnTable};
+// What is asked for: refusals 7 and 15.
+ghost use Rattle.std.specs.Prelude.{◌≡◌, ◌&&◌, ltb, drop};
+ghost use Rattle.rules.specs.Plan.{section_count, arrivals, to_point, touches};
+ghost use Rattle.rules.specs.Refusals.{verdict};
+ghost use Rattle.rules.specs.Refused.{verdict_in};
+ghost use Rattle.rules.specs.PullAnswer.{turn_asked, pull_checks};
+ghost use Rattle.plan.specs.Lent.{plan_lent};
+ghost use Rattle.pullout.specs.Asked.{reversal_lent, Prepared};
 
-use plan::read::{has_section, section_number};
-use plan::section::touches;
-use turns::turn_table::is_forbidden;
+use crate::Reversal;
+use rules::refusal::Refusal;
+use train::train_good;
+use turns::Yard;
 
-// The point to which an arrival comes.
-pub(crate) fn arrival_point(sections: &[u32], arrival: u32) -> u32
-    ensures { result ≡ to_point (of_sections sections.now) arrival }
-{
-    section_number(sections, arrival / 2, arrival % 2)
-}
+impl Reversal<'_> {
+    // The point to which the arrival comes.
+    pub(crate) fn point(&self) -> u32
+        ensures { result ≡ to_point (plan_lent self.now.plan) self.now.arrival }
+    {
+        self.plan.number(self.arrival / 2, self.arrival % 2)
+    }
 
-// There are such an arrival and such a section, and they meet.
-fn meets(sections: &[u32], arrival: u32, section: u32) -> bool
-    ensures { result ≡ (ltb arrival (arrivals (of_sections sections.now)) && ltb section (section_count (of_sections sections.now)) && touches (of_sections sections.now) section (to_point (of_sections sections.now) arrival)) }
-{
-    if !has_section(sections, arrival / 2) {
-        return false;
+    // There are such an arrival and such a section, and they meet.
+    fn meets(&self) -> bool
+        ensures { result ≡ (ltb self.now.arrival (arrivals (plan_lent self.now.plan)) && ltb self.now.section (section_count (plan_lent self.now.plan)) && touches (plan_lent self.now.plan) self.now.section (to_point (plan_lent self.now.plan) self.now.arrival)) }
+    {
+        self.plan.has_section(self.arrival / 2)
+            && self.plan.has_section(self.section)
+            && self.plan.touches(self.section, self.point())
     }
-    if !has_section(sections, section) {
-        return false;
-    }
-    touches(sections, section, arrival_point(sections, arrival))
-}
 
-// The turn from the arrival to the section is forbidden at the arrival's point.
-pub(crate) fn turn_asked(
-    sections: &[u32],
-    turns: &[u32],
-    table: &[u32; 1536],
-    arrival: u32,
-    section: u32,
-) -> bool
-    requires { Passes sections.now turns.now × TurnTable sections.now turns.now table.now }
-    ensures { result ≡ turn_asked (reversal_of (plan_of 0 sections.now turns.now) 0 arrival section) }
-{
-    if !meets(sections, arrival, section) {
-        return false;
+    // The turn from the arrival to the section is forbidden at the arrival's point.
+    fn turn_asked(&self, yard: &Yard) -> bool
+        requires { Prepared self.now yard.now }
+        ensures { result ≡ turn_asked (reversal_lent self.now) }
+    {
+        if !self.meets() {
+            return false;
+        }
+        let from = self.arrival / 2;
+        if from == self.section {
+            return false;
+        }
+        yard.is_forbidden(self.point(), from, self.section)
     }
-    let c = arrival / 2;
-    if c == section {
-        return false;
+
+    // Refusals 7 and 15, where the plan has passed.
+    pub(crate) fn check_asked(&self, yard: &Yard) -> Result<(), Refusal>
+        requires { Prepared self.now yard.now }
+        ensures { verdict_in result ≡ verdict (drop 6 (pull_checks (reversal_lent self.now))) }
+    {
+        if !train_good(self.length) {
+            return Err(Refusal::Length);
+        }
+        if !self.turn_asked(yard) {
+            return Err(Refusal::NoTurn);
+        }
+        Ok(())
     }
-    is_forbidden(table, arrival_point(sections, arrival), c, section)
 }

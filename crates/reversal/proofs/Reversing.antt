@@ -1,12 +1,11 @@
 -- What an answer says to the caller, and what gives one: a way that was followed, a guess that found nothing, or a search.
 -- Assumes nothing.
 use mathlib.Core.Path.{◌≡◌}
-use mathlib.Core.Bool.{Bool, true, false, not, true≢false, false≢true}
+use mathlib.Core.Bool.{Bool, true, false, true≢false, false≢true}
 use mathlib.Core.List.{List}
 use Prim.Native.Nat.{ℕ, ◌<◌}
-use borrow.Author.Tests.{eq-eqb, ne_eqb}
-use native.Mathlib.Omega.{arith}
-use lib.Dec.{eqb}
+use Rattle.std.proofs.Common.{Option}
+use Rattle.std.specs.Option.{is_some}
 use Rattle.rules.specs.Plan.{Plan, plan_of}
 use Rattle.rules.specs.PullOut.{PullOut, NoPullOut, any_section}
 use Rattle.rules.proofs.Ways.{may_use, only, Way}
@@ -35,7 +34,7 @@ module _ {ss ts : List ℕ} {n c p s : ℕ} where
   pub none_reverses : ((qs : List ℕ) → Takes ss ts c s n c p qs → ⊥) → (v : ℕ) → Reverses (plan_of v ss ts) n c p s false
   none_reverses miss v = can_not (no_pull (λ rs k. miss rs (record { marks = only p; way = way_points v 0 k })))
 
--- the search for the first pull-out counts its sections
-pub searched_reverses : {y : Plan} {need c p s n : ℕ} {b a : List ℕ} → Searched y need c p s b n a → Reverses y need c p s (not (eqb n 0))
-searched_reverses {n} (none_there e w miss) = rw (eq-eqb n 0 e) (can_not miss)
-searched_reverses {n} (first_there qs e z l w f) = rw (ne_eqb n 0 (λ i. omega arith)) (can qs f.pull_out)
+-- the search for the first pull-out has found one, or there is none
+pub searched_reverses : {y : Plan} {need c p s : ℕ} {n : Option ℕ} {b a : List ℕ} → Searched y need c p s b n a → Reverses y need c p s (is_some n)
+searched_reverses (none_there e w miss) = rw e (can_not miss)
+searched_reverses (first_there qs e l w f) = rw e (can qs f.pull_out)

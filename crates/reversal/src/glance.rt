@@ -1,44 +1,62 @@
 // A glance at one section: what it is to a pull-out, whatever points have been passed.
-ghost use Rattle.turns.specs.Tables.{Passes, TurnTable, Arrived};
-ghost use Rattle.reversal.specs.Glanced.{Glanced};
+ghost use Rattle.turns.specs.Tables.{Ready};
+ghost use Rattle.reversal.specs.Glanced.{CameTo, Glanced, Seen};
 
-use plan::read::{LENGTH, section_number};
-use plan::section::{far_end, free_from, is_free};
-use turns::enter::may_enter;
+use plan::read::LENGTH;
+use turns::Serving;
 
-// Not to be entered; the last; or one to go on over, to this far point, where this length is then left.
-#[derive(Clone, Copy)]
+// A train that is pulled out has come over section `over` to the point `at`, where the length `left` is left.
+#[derive(Clone, Copy, Debug, PartialEq, Eq)]
+pub struct Position {
+    pub over: u32,
+    pub at: u32,
+    pub left: u32,
+}
+
+// What a section is from there: not to be entered; the last; or one to go on over, to where it leads.
+#[derive(Clone, Copy, Debug, PartialEq, Eq)]
 pub enum Ahead {
     Shut,
     Last,
-    On(u32, u32),
+    On(Position),
 }
 
-// What section e is at the point p, come there over section h with the length n left; beyond it, the far point and what is then left.
-pub(crate) fn glance(
-    sections: &[u32],
-    turns: &[u32],
-    table: &[u32; 1536],
-    c: u32,
-    s: u32,
-    h: u32,
-    p: u32,
-    e: u32,
-    n: u32,
-) -> Ahead
-    requires { Passes sections.now turns.now × TurnTable sections.now turns.now table.now × Arrived sections.now h p }
-    ensures { Glanced sections.now turns.now c s n h p e result }
+// What section e is.
+pub(crate) fn glance(serving: &Serving, from: &Position, e: u32) -> Ahead
+    requires ready { Ready serving.now.yard.now }
+    requires came { CameTo serving.now from.now }
+    ensures { Glanced serving.now from.now e result }
 {
-    if !may_enter(sections, turns, table, c, s, h, p, e) {
+    let plan = &serving.yard.plan;
+    if !serving.may_enter(from.over, from.at, e) {
         return Ahead::Shut;
     }
-    if n <= free_from(sections, e, p) {
+    if from.left <= plan.free_from(e, from.at) {
         return Ahead::Last;
     }
-    if !is_free(sections, e) {
+    if !plan.is_free(e) {
         return Ahead::Shut;
     }
-    let q = far_end(sections, e, p);
-    let length = section_number(sections, e, LENGTH);
-    Ahead::On(q, n - length)
+    let at = plan.far_end(e, from.at);
+    let length = plan.number(e, LENGTH);
+    Ahead::On(Position {
+        over: e,
+        at,
+        left: from.left - length,
+    })
+}
+
+// What the first section at the point is that is not shut.
+pub(crate) fn straight_on(serving: &Serving, from: &Position) -> Ahead
+    requires ready { Ready serving.now.yard.now }
+    requires came { CameTo serving.now from.now }
+    ensures { Seen serving.now from.now result }
+{
+    for j in 0..3 {
+        let ahead = glance(serving, from, serving.yard.slot_at(from.at, j));
+        if ahead != Ahead::Shut {
+            return ahead;
+        }
+    }
+    Ahead::Shut
 }

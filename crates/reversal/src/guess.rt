@@ -1,76 +1,56 @@
 // A guess at a pull-out: depth first and without marks, so that it costs little, and may pass a point twice. Guessing at a point guesses
-// at its sections, guessing at a section guesses at its far point; each section takes one off the budget.
-ghost use Rattle.turns.specs.Tables.{Tables, Arrived};
+// at its sections, guessing at a section guesses at the point to which it leads; each section takes one off the budget.
+ghost use Rattle.turns.specs.Tables.{Ready};
 ghost use Rattle.tries.specs.Tried.{Over};
-ghost use Rattle.reversal.specs.Glanced.{Takes};
+ghost use Rattle.reversal.specs.Glanced.{CameTo, TakesFrom};
 ghost use Rattle.reversal.specs.Guessed.{Guessed};
 
-use crate::glance::{Ahead, glance};
-use plan::slots::slot_at;
+use crate::glance::{Ahead, Position, glance};
+use turns::Serving;
 
-// A guess from the point p on, come there over section h with the length n left; k is the budget. Its sections stand in the list
-// from place d on. The answer is 0 where it ends: with a guess, too deep for the list, or with the budget spent. Else there is
-// nothing, and the answer is what is left of the budget.
+// A guess from a point on, its sections in the list. It ends with a guess, too long for the list, or with the budget spent, and the answer
+// is None. Else there is nothing, and the answer is what is left of the budget.
 #[cycle(guess_point_guess_section)]
 pub(crate) fn guess_point(
-    sections: &[u32],
-    turns: &[u32],
-    slots: &[u32; 2304],
-    table: &[u32; 1536],
-    c: u32,
-    s: u32,
-    h: u32,
-    p: u32,
-    n: u32,
-    d: usize,
-    k: u32,
-    list: &mut [u32; 64],
-) -> u32
-    requires { Tables sections.now turns.now slots.now table.now × Arrived sections.now h p }
-    ensures { Guessed (Takes sections.now turns.now c s n h p) k result }
+    serving: &Serving,
+    from: &Position,
+    budget: u32,
+    list: &mut [u32],
+) -> Option<u32>
+    requires ready { Ready serving.now.yard.now }
+    requires came { CameTo serving.now from.now }
+    ensures { Guessed (TakesFrom serving.now from.now) budget result }
 {
-    let x = slot_at(slots, p, 0);
-    let i = guess_section(sections, turns, slots, table, c, s, h, p, x, n, d, k, list);
-    let y = slot_at(slots, p, 1);
-    let j = guess_section(sections, turns, slots, table, c, s, h, p, y, n, d, i, list);
-    let z = slot_at(slots, p, 2);
-    guess_section(sections, turns, slots, table, c, s, h, p, z, n, d, j, list)
+    let mut left = budget;
+    for j in 0..3 {
+        let e = serving.yard.slot_at(from.at, j);
+        left = guess_section(serving, from, e, left, list)?;
+    }
+    Some(left)
 }
 
-// The same over section e, which takes one off the budget. With none left the guess has ended, and the list stays as it is.
+// The same over section e, which takes one off the budget.
 #[cycle(guess_point_guess_section)]
 fn guess_section(
-    sections: &[u32],
-    turns: &[u32],
-    slots: &[u32; 2304],
-    table: &[u32; 1536],
-    c: u32,
-    s: u32,
-    h: u32,
-    p: u32,
+    serving: &Serving,
+    from: &Position,
     e: u32,
-    n: u32,
-    d: usize,
-    k: u32,
-    list: &mut [u32; 64],
-) -> u32
-    requires { Tables sections.now turns.now slots.now table.now × Arrived sections.now h p }
-    ensures { Guessed (Over (Takes sections.now turns.now c s n h p) e) k result }
+    budget: u32,
+    list: &mut [u32],
+) -> Option<u32>
+    requires ready { Ready serving.now.yard.now }
+    requires came { CameTo serving.now from.now }
+    ensures { Guessed (Over (TakesFrom serving.now from.now) e) budget result }
 {
-    if k == 0 {
-        return 0;
+    let (first, rest) = list.split_first_mut()?;
+    if budget == 0 {
+        return None;
     }
-    if 63 < d {
-        return 0;
-    }
-    list[d] = e;
-    let i = k - 1;
-    let seen = glance(sections, turns, table, c, s, h, p, e, n);
-    match seen {
-        Ahead::Shut => i,
-        Ahead::Last => 0,
-        Ahead::On(q, m) => {
-            guess_point(sections, turns, slots, table, c, s, e, q, m, d + 1, i, list)
-        }
+    *first = e;
+    let left = budget - 1;
+    match glance(serving, from, e) {
+        Ahead::Shut => Some(left),
+        Ahead::Last => None,
+        Ahead::On(to) => guess_point(serving, &to, left, rest),
     }
 }

@@ -4,64 +4,53 @@
 
 mod glance;
 mod guess;
+mod passed;
 mod run;
 
 ghost use Rattle.std.specs.Prelude.{ℕ, ◌<◌};
 ghost use Rattle.rules.specs.Plan.{plan_of};
-ghost use Rattle.turns.specs.Tables.{Tables, Arrived};
+ghost use Rattle.turns.specs.Tables.{Ready, Arrived};
 ghost use Rattle.reversal.specs.Reverses.{Reverses};
 
+use glance::Position;
 use guess::guess_point;
 use run::{follow, runs_out};
 use tries::first_pull_out;
+use turns::Serving;
 
 // How many sections a guess may try.
 const BUDGET: u32 = 256;
 
 // The search for the first pull-out tells. Its tables are large, so they stand here and not in the way of a guess.
-fn search_reversal(
-    sections: &[u32],
-    turns: &[u32],
-    slots: &[u32; 2304],
-    table: &[u32; 1536],
-    length: u32,
-    c: u32,
-    p: u32,
-    s: u32,
-) -> bool
-    requires { Tables sections.now turns.now slots.now table.now × Arrived sections.now c p × (0 < length) }
-    ensures { (v : ℕ) → Reverses (plan_of v sections.now turns.now) length c p s result }
+fn search_reversal(serving: &Serving, p: u32, length: u32) -> bool
+    requires ready { Ready serving.now.yard.now }
+    requires arrived { Arrived serving.now.yard.now.plan.sections.now serving.now.from p }
+    requires some { 0 < length }
+    ensures { (v : ℕ) → Reverses (plan_of v serving.now.yard.now.plan.sections.now serving.now.yard.now.plan.turns.now) length serving.now.from p serving.now.onto result }
 {
     let mut list = [0; 768];
-    first_pull_out(sections, turns, slots, table, &mut list, length, c, p, s) != 0
+    first_pull_out(serving, p, length, &mut list).is_some()
 }
 
-// A train of this length that came over section c to its end p can be pulled out there and go on over section s.
-pub fn can_reverse(
-    sections: &[u32],
-    turns: &[u32],
-    slots: &[u32; 2304],
-    table: &[u32; 1536],
-    length: u32,
-    c: u32,
-    p: u32,
-    s: u32,
-) -> bool
-    requires { Tables sections.now turns.now slots.now table.now × Arrived sections.now c p × (0 < length) }
-    ensures { (v : ℕ) → Reverses (plan_of v sections.now turns.now) length c p s result }
+// A train of this length that came to the end p of its section can be pulled out there and go on over the other section of the turn.
+pub fn can_reverse(serving: &Serving, p: u32, length: u32) -> bool
+    requires ready { Ready serving.now.yard.now }
+    requires arrived { Arrived serving.now.yard.now.plan.sections.now serving.now.from p }
+    requires some { 0 < length }
+    ensures { (v : ℕ) → Reverses (plan_of v serving.now.yard.now.plan.sections.now serving.now.yard.now.plan.turns.now) length serving.now.from p serving.now.onto result }
 {
-    if runs_out(sections, turns, slots, table, length, c, p, s) {
+    if runs_out(serving, p, length) {
         return true;
     }
     let mut list = [0; 64];
-    let left = guess_point(
-        sections, turns, slots, table, c, s, c, p, length, 0, BUDGET, &mut list,
-    );
-    if left != 0 {
+    let start = Position {
+        over: serving.from,
+        at: p,
+        left: length,
+    };
+    let missed = guess_point(serving, &start, BUDGET, &mut list).is_some();
+    if missed {
         return false;
     }
-    if follow(sections, turns, table, &list, length, c, p, s) {
-        return true;
-    }
-    search_reversal(sections, turns, slots, table, length, c, p, s)
+    follow(serving, p, length, &list) || search_reversal(serving, p, length)
 }

@@ -1,108 +1,59 @@
 // Running through a pull-out, section by section, with the points passed in a list: straight on, or along a guess. A run that comes to
 // its end is a pull-out; one that fails says nothing.
-ghost use Rattle.std.specs.Prelude.{◌≡◌, true, false, ◌≢◌, ℕ, ◌<◌, get_or};
-ghost use Rattle.rules.specs.Plan.{plan_of};
-ghost use Rattle.turns.specs.Tables.{Passes, TurnTable, Tables, Arrived};
-ghost use Rattle.reversal.specs.Reverses.{Reverses};
+ghost use Rattle.std.specs.Prelude.{ℕ, ◌≡◌, true, ◌<◌};
+ghost use Rattle.turns.specs.Tables.{Ready, Arrived};
+ghost use Rattle.reversal.specs.Reverses.{CanReverse};
+ghost use Rattle.reversal.specs.Glanced.{CameTo, Seen};
 
-use crate::glance::{Ahead, glance};
-use plan::slots::slot_at;
+use crate::glance::{Ahead, Position, glance, straight_on};
+use crate::passed::Passed;
+use turns::Serving;
 
-// The point q is among the first of the points passed, or the list has no place for it.
-fn has_passed(passed: &[u32; 64], count: usize, q: u32) -> bool
-    ensures { result ≡ false → (count < 64) × ((j : ℕ) → j < count → get_or passed.now j 0 ≢ q) }
+// A run of at most 64 sections comes to its end, by what is seen ahead at each step from where the train stands.
+fn run<F: Fn(usize, &Position) -> Ahead>(serving: &Serving, p: u32, length: u32, ahead: F) -> bool
+    requires arrived { Arrived serving.now.yard.now.plan.sections.now serving.now.from p }
+    requires some { 0 < length }
+    requires looks { (i : ℕ) (from : _) → i < 64 → CameTo serving.now from.now → F.pre ahead i from }
+    requires tells { (i : ℕ) (from : _) (seen : _) → CameTo serving.now from.now → F.post ahead i from seen → Seen serving.now from.now seen }
+    ensures { result ≡ true → CanReverse serving.now p length true }
 {
-    if 63 < count {
-        return true;
-    }
-    let mut j = 0;
-    while j < count {
-        if passed[j] == q {
-            return true;
-        }
-        j += 1;
-    }
-    false
-}
-
-// The list begins with a pull-out for the turn from section c to section s at p that takes this length.
-pub(crate) fn follow(
-    sections: &[u32],
-    turns: &[u32],
-    table: &[u32; 1536],
-    list: &[u32; 64],
-    length: u32,
-    c: u32,
-    p: u32,
-    s: u32,
-) -> bool
-    requires { Passes sections.now turns.now × TurnTable sections.now turns.now table.now × Arrived sections.now c p × (0 < length) }
-    ensures { result ≡ true → (v : ℕ) → Reverses (plan_of v sections.now turns.now) length c p s true }
-{
-    let mut passed = [p; 64];
-    let mut h = c;
-    let mut at = p;
-    let mut left = length;
-    let mut i = 0;
-    while i < 63 {
-        let e = list[i];
-        let seen = glance(sections, turns, table, c, s, h, at, e, left);
-        match seen {
+    let mut passed = Passed::start(p);
+    let mut train = Position {
+        over: serving.from,
+        at: p,
+        left: length,
+    };
+    for i in 0..64 {
+        match ahead(i, &train) {
             Ahead::Shut => return false,
             Ahead::Last => return true,
-            Ahead::On(q, n) => {
-                i += 1;
-                if has_passed(&passed, i, q) {
+            Ahead::On(to) => {
+                if !passed.add(to.at) {
                     return false;
                 }
-                passed[i] = q;
-                h = e;
-                at = q;
-                left = n;
+                train = to;
             }
         }
     }
     false
+}
+
+// The list begins with a pull-out for a turn at p that takes this length.
+pub(crate) fn follow(serving: &Serving, p: u32, length: u32, list: &[u32; 64]) -> bool
+    requires ready { Ready serving.now.yard.now }
+    requires arrived { Arrived serving.now.yard.now.plan.sections.now serving.now.from p }
+    requires some { 0 < length }
+    ensures { result ≡ true → CanReverse serving.now p length true }
+{
+    run(serving, p, length, |i, from| glance(serving, from, list[i]))
 }
 
 // There is a pull-out straight on: by the first section at each point that is not shut.
-pub(crate) fn runs_out(
-    sections: &[u32],
-    turns: &[u32],
-    slots: &[u32; 2304],
-    table: &[u32; 1536],
-    length: u32,
-    c: u32,
-    p: u32,
-    s: u32,
-) -> bool
-    requires { Tables sections.now turns.now slots.now table.now × Arrived sections.now c p × (0 < length) }
-    ensures { result ≡ true → (v : ℕ) → Reverses (plan_of v sections.now turns.now) length c p s true }
+pub(crate) fn runs_out(serving: &Serving, p: u32, length: u32) -> bool
+    requires ready { Ready serving.now.yard.now }
+    requires arrived { Arrived serving.now.yard.now.plan.sections.now serving.now.from p }
+    requires some { 0 < length }
+    ensures { result ≡ true → CanReverse serving.now p length true }
 {
-    let mut passed = [p; 64];
-    let mut i = 0;
-    let mut h = c;
-    let mut at = p;
-    let mut left = length;
-    let mut j = 0;
-    while j < 3 {
-        let e = slot_at(slots, at, j);
-        let seen = glance(sections, turns, table, c, s, h, at, e, left);
-        match seen {
-            Ahead::Shut => j += 1,
-            Ahead::Last => return true,
-            Ahead::On(q, n) => {
-                i += 1;
-                if has_passed(&passed, i, q) {
-                    return false;
-                }
-                passed[i] = q;
-                h = e;
-                at = q;
-                left = n;
-                j = 0;
-            }
-        }
-    }
-    false
+    run(serving, p, length, |_, from| straight_on(serving, from))
 }

@@ -3,71 +3,46 @@
 #![tactic(auto)]
 
 mod input;
-mod line;
 mod query;
 
 ghost use Rattle.std.specs.Prelude.{◌≤◌, length};
 
 use input::read_full;
-use line::{line_end, number, refused};
-use plan::{Checked, check_plan};
+use plan::Plan;
 use query::answer_queries;
 use std::io::{self, Input};
-use yardfile::{Read, read_yard};
-
-// At most so much of a table: a file holds no more than the tables do, so nothing is ever cut off.
-fn within(n: usize, most: usize) -> usize
-    ensures { result ≤ most }
-{
-    if n < most {
-        return n;
-    }
-    most
-}
-
-// The first line of a yard with e sections and t turns.
-fn yard_line(rt: &impl Print, points: u32, e: u32, t: u32) -> io::Result<()> {
-    number(rt, b"YARD ", points)?;
-    number(rt, b" ", e)?;
-    number(rt, b" ", t)?;
-    line_end(rt)
-}
+use yardfile::read_yard;
 
 // The lines of a yard, of e sections and t turns.
-fn report_yard(
-    rt: &impl Print,
-    points: u32,
-    e: u32,
-    t: u32,
-    sections: &[u32],
-    turns: &[u32],
-    queries: &[u32],
-) -> io::Result<()>
-    requires { (length sections.now ≤ 6144) × (length queries.now ≤ 1280) }
+fn report_yard(rt: &impl Print, plan: Plan, e: u32, t: u32, queries: &[u32]) -> io::Result<()>
+    requires { length plan.sections.now ≤ 6144 }
 {
-    let checked = check_plan(points, sections, turns);
-    match checked {
-        Checked::Refused(refusal, place) => refused(rt, b"REFUSED ", refusal, place),
-        Checked::Passed => {
-            yard_line(rt, points, e, t)?;
-            answer_queries(rt, points, sections, turns, queries)
+    match plan.check() {
+        Err(refusal) => println!(rt; "REFUSED {refusal}"),
+        Ok(()) => {
+            println!(rt; "YARD {} {e} {t}", plan.points)?;
+            answer_queries(rt, plan, queries)
         }
     }
 }
 
-// The lines of a file.
+// The lines of a file. A file holds no more than the tables do, so nothing is ever cut off.
 fn report(rt: &impl Print, file: &[u8]) -> io::Result<()> {
     let mut sections = [0; 6144];
     let mut turns = [0; 1536];
     let mut queries = [0; 1280];
-    let read = read_yard(file, &mut sections, &mut turns, &mut queries);
-    match read {
-        Read::Refused(refusal, offset) => refused(rt, b"FILE ", refusal, offset),
-        Read::Yard(points, e, t, q) => {
-            let s = within(6 * (e as usize), 6144);
-            let u = within(2 * (t as usize), 1536);
-            let w = within(5 * (q as usize), 1280);
-            report_yard(rt, points, e, t, &sections[..s], &turns[..u], &queries[..w])
+    match read_yard(file, &mut sections, &mut turns, &mut queries) {
+        Err(refusal) => println!(rt; "FILE {refusal}"),
+        Ok(counts) => {
+            let s = (6 * counts.sections as usize).min(6144);
+            let t = (2 * counts.turns as usize).min(1536);
+            let q = (5 * counts.queries as usize).min(1280);
+            let plan = Plan {
+                points: counts.points,
+                sections: &sections[..s],
+                turns: &turns[..t],
+            };
+            report_yard(rt, plan, counts.sections, counts.turns, &queries[..q])
         }
     }
 }

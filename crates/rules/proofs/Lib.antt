@@ -3,6 +3,7 @@ pub mod Tests
 pub mod Branches
 pub mod Lists
 pub mod Ranges
+pub mod Refused
 pub mod Verdicts
 pub mod Pigeon
 pub mod Walks

@@ -52,6 +52,10 @@
 --   each              a refusal that is tested at each of m places
 --   verdict           the first row that applies anywhere, at the lowest place where it does
 --
+-- Refused: The refusals of the code as document 01's numbers and places.
+--   verdict_of        the number and the place of each refusal
+--   verdict_in        the number and the place of what is refused, or that it is not
+--
 -- PlanCheck: Which plans are refused: numbers 1 to 6.
 --   tables_good       the counts are in range, and each table is made of whole rows
 --   ground_good       what does not move: two different ends that are points, a length in range, one of the two kinds
@@ -106,6 +110,10 @@
 --   any_section       document 01 lets a pull-out use every section, the start and the finish section too
 --   FirstPullOut      of the pull-outs for (c, p, s), the one whose list is smallest
 --   NoPullOut         there is no pull-out for (c, p, s)
+--
+-- Rows: The rows in which the steps of all arrivals stand.
+--   row_at            the row of a; past the table there is no step and no end
+--   StepOf            the step s is one of the two in the row of a
 --
 -- Trip: Admissible steps and walks of one train.
 --   Trip              the tables, the length that a pull-out has to take and a reversal costs, the sections that a step may enter, those that a pull-out may use, the point and the section at which a walk ends, and the room there
@@ -198,10 +206,12 @@
 pub mod Ranges
 pub mod Plan
 pub mod Refusals
+pub mod Refused
 pub mod PlanCheck
 pub mod Query
 pub mod Net
 pub mod PullOut
+pub mod Rows
 pub mod Trip
 pub mod Search
 pub mod PullAnswer

@@ -1,83 +1,84 @@
--- The table of a trip's steps is fit for distances over it (`trip_table`), and the net that it is, is alike the trip's own
+-- The rows of a trip's steps are fit for distances over them (`trip_table`), and the net that they are is alike the trip's own
 -- (`table_to_trip`, `trip_to_table`).
 -- Assumes nothing.
-use mathlib.Core.Path.{◌≡◌, refl, sym}
-use mathlib.Core.List.{List}
-use Prim.Native.Nat.{ℕ, ◌+◌, ◌*◌, ◌/◌, ◌≤◌, ◌<◌}
-use native.Mathlib.Omega.{arith}
+use Rattle.std.proofs.Common.{◌≡◌, ℕ, refl, sym, ap, ◌∙◌, arith, true, false, ◌<◌, length}
 use native.Mathlib.Decide.{ℕ_discrete}
 use borrow.Author.Tests.{eq-eqb, ne_eqb}
-use lib.ListN.{length, get_or}
 use Rattle.rules.specs.Plan.{arrivals}
-use Rattle.rules.specs.Net.{no_distance}
 use Rattle.rules.specs.Trip.{Trip, Step, cost, Finish, net_of}
+use Rattle.rules.specs.declared.net.NetTable.{NetTable}
+use Rattle.rules.specs.declared.net.Step as rows
+use Rattle.rules.specs.Rows.{row_at, StepOf, first_of, second_of}
 use Rattle.rules.proofs.Alike.{Within}
 use Rattle.rules.proofs.Trips.{SoundTrip, bounded}
 use Rattle.steps.specs.StepTable.{StepTable, EndAt, may_end, goes_on, Ends}
 use Rattle.distance.specs.Table.{Listed, Ending, listed_cost, table_net, Table}
 
-module _ {t : Trip} (S : SoundTrip t) (next costs ends : List ℕ) (steps : StepTable t next costs) (marks : Ends t ends) where
-  -- what stands at a place of a leads to an arrival: it is a step from a
-  entry_at : (a b k : ℕ) → a < arrivals t.plan → b < arrivals t.plan → 2 * a ≤ k → k ≤ 2 * a + 1 → get_or next k no_distance ≡ b
-      → Step t a b × (get_or costs k 0 ≡ cost t a b)
-  entry_at a b k i j low high e =
+module _ {t : Trip} (S : SoundTrip t) (net : NetTable) (sized : length net.rows.now ≡ arrivals t.plan) (room : net.room ≡ t.room) (steps : StepTable t net.rows.now) (marks : Ends t net.rows.now) where
+  -- what stands in the row of a leads to an arrival: it is a step from a
+  entry_at : (a b : ℕ) (s : rows.Step) → a < arrivals t.plan → b < arrivals t.plan → StepOf net.rows.now a s → s.next ≡ b
+      → Step t a b × (s.cost ≡ cost t a b)
+  entry_at a b s i j p e =
       let f = S.few_sections in
-      let x = steps.each k (omega arith) (omega arith) in
-      let h : k / 2 ≡ a = omega arith in
-      (rw (h, e) at x.step, rw (h, e) at x.cost_of)
+      let x = steps.each a s i p (omega arith) in
+      (rw e at x.step, rw e at x.cost_of)
 
-  listed_step : {a b : ℕ} → Listed next (arrivals t.plan) a b → Step t a b
-  listed_step {a} {b} l = (entry_at a b l.place l.from l.to l.low l.high l.leads).0
+  listed_step : {a b : ℕ} → Listed net.rows.now a b → Step t a b
+  listed_step {a} {b} l = (entry_at a b l.step (omega (arith, l.from)) (omega (arith, l.to)) l.place l.leads).0
 
-  -- the step stands at the first place, or else at the second
-  listed_right : {a b : ℕ} → Listed next (arrivals t.plan) a b → listed_cost next costs a b ≡ cost t a b
-  listed_right {a} {b} l = go (ℕ_discrete (get_or next (2 * a) no_distance) b)
+  -- the step stands first, or else second
+  listed_right : {a b : ℕ} → Listed net.rows.now a b → listed_cost net.rows.now a b ≡ cost t a b
+  listed_right {a} {b} l = go (ℕ_discrete (row_at net.rows.now a).first.next b)
     where
-      go : Dec (get_or next (2 * a) no_distance ≡ b) → listed_cost next costs a b ≡ cost t a b
-      go (yes e) = rw (eq-eqb (get_or next (2 * a) no_distance) b e) (entry_at a b (2 * a) l.from l.to (omega arith) (omega arith) e).1
-      go (no d) = rw (ne_eqb (get_or next (2 * a) no_distance) b d) (entry_at a b (2 * a + 1) l.from l.to (omega arith) (omega arith) (second (ℕ_discrete l.place (2 * a)))).1
-        where
-          second : Dec (l.place ≡ 2 * a) → get_or next (2 * a + 1) no_distance ≡ b
-          second (yes e) = absurd (d (rw e at l.leads))
-          second (no e) = let p : l.place ≡ 2 * a + 1 = omega (arith, l.low, l.high) in rw p at l.leads
+      inside : a < arrivals t.plan
+      inside = omega (arith, l.from)
 
-  step_listed : {a b : ℕ} → Step t a b → Listed next (arrivals t.plan) a b
+      there : b < arrivals t.plan
+      there = omega (arith, l.to)
+
+      go : Dec ((row_at net.rows.now a).first.next ≡ b) → listed_cost net.rows.now a b ≡ cost t a b
+      go (yes e) =
+          rw (eq-eqb (row_at net.rows.now a).first.next b e) (entry_at a b (row_at net.rows.now a).first inside there (first_of refl) e).1
+      go (no d) =
+          rw (ne_eqb (row_at net.rows.now a).first.next b d) (entry_at a b (row_at net.rows.now a).second inside there (second_of refl) (second l.place)).1
+        where
+          second : StepOf net.rows.now a l.step → (row_at net.rows.now a).second.next ≡ b
+          second (first_of p) = absurd (d (ap (λ (s : rows.Step). s.next) (sym p) ∙ l.leads))
+          second (second_of p) = ap (λ (s : rows.Step). s.next) (sym p) ∙ l.leads
+
+  step_listed : {a b : ℕ} → Step t a b → Listed net.rows.now a b
   step_listed {a} {b} s =
       let p = steps.every a b s in
-      record { from = s.from; to = s.to; place = p.at; low = p.low; high = p.high; leads = p.leads }
+      record { from = omega (arith, s.from); to = omega (arith, s.to); step = p.step; place = p.place; leads = p.leads }
 
-  ending_right : {a : ℕ} → Ending ends (arrivals t.plan) a → Finish t a
-  ending_right {a} e = go (marks.at a e.inside) e.marked
+  ending_right : {a : ℕ} → Ending net.rows.now a → Finish t a
+  ending_right {a} e = go (marks.at a (omega (arith, e.inside)))
     where
-      go : EndAt t ends a → get_or ends a 0 ≡ 1 → Finish t a
-      go (may_end i f) j = f
-      go (goes_on i n) j = absurd (omega arith)
+      go : EndAt t net.rows.now a → Finish t a
+      go (may_end i f) = f
+      go (goes_on i n) = let z : true ≡ false = sym e.marked ∙ i in cc
 
-  ending_marked : {a : ℕ} → Finish t a → Ending ends (arrivals t.plan) a
-  ending_marked {a} f = record { inside = f.inside; marked = go (marks.at a f.inside) }
+  ending_marked : {a : ℕ} → Finish t a → Ending net.rows.now a
+  ending_marked {a} f = record { inside = omega (arith, f.inside); marked = go (marks.at a f.inside) }
     where
-      go : EndAt t ends a → get_or ends a 0 ≡ 1
+      go : EndAt t net.rows.now a → (row_at net.rows.now a).ends ≡ true
       go (may_end i g) = i
       go (goes_on i n) = absurd (n f)
 
-  pub table_to_trip : Within (table_net next costs ends t.room (arrivals t.plan)) (net_of t)
-  table_to_trip = record { step = listed_step; cost = listed_right; ending = ending_right; room = refl }
+  pub table_to_trip : Within (table_net net) (net_of t)
+  table_to_trip = record { step = listed_step; cost = listed_right; ending = ending_right; room = room }
 
-  pub trip_to_table : Within (net_of t) (table_net next costs ends t.room (arrivals t.plan))
-  trip_to_table = record { step = step_listed; cost = λ s. sym (listed_right (step_listed s)); ending = ending_marked; room = refl }
+  pub trip_to_table : Within (net_of t) (table_net net)
+  trip_to_table = record { step = step_listed; cost = λ s. sym (listed_right (step_listed s)); ending = ending_marked; room = sym room }
 
-  pub trip_table : 2 * arrivals t.plan ≤ length next → 2 * arrivals t.plan ≤ length costs → arrivals t.plan ≤ length ends
-      → Table next costs ends t.room (arrivals t.plan)
-  trip_table u v w = record {
-    few = omega (arith, S.few_sections);
-    next_long = u;
-    cost_long = v;
-    ends_long = w;
-    costs = λ k i l.
-        let x = entry_at (k / 2) (get_or next k no_distance) k (omega arith) l (omega arith) (omega arith) refl in
+  pub trip_table : Table net
+  trip_table = record {
+    few = omega (arith, sized, S.few_sections);
+    costs = λ a s i p l.
+        let x = entry_at a s.next s (omega (arith, sized)) (omega (arith, sized)) p refl in
         let c = (bounded S).positive x.0 in
         let d = (bounded S).capped x.0 in
         omega (arith, x.1);
-    room_small = S.room;
-    ascending = λ a i l m. let f = S.few_sections in steps.ascending a i (omega arith) (omega arith);
+    room_small = omega (arith, room, S.room);
+    ascending = λ a i l m. let f = S.few_sections in steps.ascending a (omega (arith, sized)) (omega (arith, sized)) (omega (arith, sized));
   }

@@ -15,111 +15,62 @@
 mod solve;
 mod write;
 
-ghost use Rattle.std.specs.Prelude.{◌≡◌, length};
-ghost use Rattle.rules.specs.Plan.{plan_of};
-ghost use Rattle.rules.specs.Refusals.{verdict, passed};
-ghost use Rattle.rules.specs.PlanCheck.{plan_checks};
-ghost use Rattle.rules.specs.Query.{query_of};
+ghost use Rattle.std.specs.Prelude.{length};
 ghost use Rattle.rules.specs.Search.{Answer};
-ghost use Rattle.plan.specs.Ends.{Slots};
-ghost use Rattle.train.specs.Asked.{query_asked, Accepted};
+ghost use Rattle.train.specs.Asked.{query_lent, Accepted};
+ghost use Rattle.steps.specs.Listing.{Ready};
+ghost use Rattle.search.specs.Solved.{Solvable};
 ghost use Rattle.search.specs.Answer.{result_of};
 
 use plan::slots::NO_SECTION;
-use plan::{Checked, check_and_index};
 use rules::NO_DISTANCE;
+use rules::copy::copy_into;
+use rules::refusal::Refusal;
+use rules::route::Route;
 use solve::solve;
-use train::{Asked, check_train};
+use steps::Trip;
+use train::Query;
 use turns::turn_table::turn_table;
-use write::write_answer;
+use write::write_walk;
 
-// What is answered: a walk's total, reversals and steps, or a refusal's number and place.
-#[derive(Clone, Copy)]
-pub enum Routed {
-    Found(u32, u32, u32),
-    Refused(u32, u32),
-}
-
-// Refusals 12 and 14 and the walk, where 1 to 11 do not apply.
+// Refusals 12 and 14 and the walk, where 1 to 11 do not apply. Number 13 never applies, since a shortest walk meets no arrival twice.
 fn find_route(
-    sections: &[u32],
-    turns: &[u32],
-    slots: &[u32; 2304],
-    asked: Asked,
+    trip: &Trip,
+    known: &mut [u32],
+    walk: &mut [u32],
     route: &mut [u32],
     labels: &mut [u32],
-) -> Routed
-    requires { Accepted (query_asked asked sections.now turns.now) (length labels.old) × Slots sections.now slots.now }
-    ensures { Answer (query_asked asked sections.now turns.now) route.old labels.old (result_of result route.new labels.new) }
+) -> Result<Route, Refusal>
+    requires ready { Ready trip.now }
+    requires accepted { Accepted (query_lent trip.now.query) (length labels.old) }
+    requires lent { Solvable (query_lent trip.now.query) known.old walk.old }
+    ensures { Answer (query_lent trip.now.query) route.old labels.old (result_of result route.new labels.new) }
 {
-    let table = turn_table(sections, turns);
+    let Some(steps) = solve(trip, known, walk) else {
+        copy_into(known, labels);
+        return Err(Refusal::NoRoute);
+    };
+    write_walk(trip, known, &walk[..steps], route, labels)
+}
+
+// The first shortest walk of what is asked: any numbers, any lengths of the tables and of the buffers.
+pub fn search(query: &Query, route: &mut [u32], labels: &mut [u32]) -> Result<Route, Refusal>
+    ensures { Answer (query_lent query.now) route.old labels.old (result_of result route.new labels.new) }
+{
+    let mut slots = [NO_SECTION; 2304];
+    query.plan.check_and_index(&mut slots)?;
+    query.check_train()?;
+    if labels.len() != 2 * (query.plan.sections.len() / 6) {
+        return Err(Refusal::Labels);
+    }
+    let turns = turn_table(&query.plan);
+    let trip = Trip {
+        query: *query,
+        slots: &slots,
+        turns: &turns,
+    };
     let mut known = [NO_DISTANCE; 2048];
     let mut walk = [0; 2048];
-    let steps = solve(sections, turns, slots, &table, asked, &mut known, &mut walk);
-    write_answer(
-        sections, turns, &table, asked, &known, &walk, steps, route, labels,
-    )
-}
-
-// Refusals 7 to 11, where the plan has passed, and then the others.
-fn search_plan(
-    sections: &[u32],
-    turns: &[u32],
-    slots: &[u32; 2304],
-    asked: Asked,
-    route: &mut [u32],
-    labels: &mut [u32],
-) -> Routed
-    requires { (verdict (plan_checks (plan_of asked.points sections.now turns.now)) ≡ passed) × Slots sections.now slots.now }
-    ensures { Answer (query_asked asked sections.now turns.now) route.old labels.old (result_of result route.new labels.new) }
-{
-    let checked = check_train(
-        sections,
-        asked.length,
-        asked.start,
-        asked.leave,
-        asked.finish,
-        asked.enter,
-    );
-    match checked {
-        Checked::Refused(number, place) => Routed::Refused(number, place),
-        Checked::Passed => {
-            if labels.len() != 2 * (sections.len() / 6) {
-                return Routed::Refused(11, 0);
-            }
-            find_route(sections, turns, slots, asked, route, labels)
-        }
-    }
-}
-
-// The first shortest walk of a train of this length from the section start, which it leaves by the end leave, to the section
-// finish, which it enters by the end enter: any numbers, any lengths of the tables and of the buffers.
-pub fn search(
-    points: u32,
-    sections: &[u32],
-    turns: &[u32],
-    length: u32,
-    start: u32,
-    leave: u32,
-    finish: u32,
-    enter: u32,
-    route: &mut [u32],
-    labels: &mut [u32],
-) -> Routed
-    ensures { Answer (query_of (plan_of points sections.now turns.now) length start leave finish enter) route.old labels.old (result_of result route.new labels.new) }
-{
-    let asked = Asked {
-        points,
-        length,
-        start,
-        leave,
-        finish,
-        enter,
-    };
-    let mut slots = [NO_SECTION; 2304];
-    let checked = check_and_index(points, sections, turns, &mut slots);
-    match checked {
-        Checked::Refused(number, place) => Routed::Refused(number, place),
-        Checked::Passed => search_plan(sections, turns, &slots, asked, route, labels),
-    }
+    let count = labels.len();
+    find_route(&trip, &mut known[..count], &mut walk, route, labels)
 }

@@ -1,27 +1,23 @@
 -- The answers of the sheet checker, one law for each of its ends.
 -- Assumes nothing.
-use mathlib.Core.Path.{◌≡◌, refl}
-use mathlib.Core.Logic.{◌≢◌}
-use mathlib.Core.List.{List}
-use Prim.Native.Nat.{ℕ, ◌+◌, ◌<◌}
-use native.Mathlib.Omega.{arith}
-use lib.ListN.{length, get_or}
-use Rattle.rules.specs.Refusals.{refused_at}
-use Rattle.rules.specs.Query.{Query, start_arrival, first_distance}
+use Rattle.std.proofs.Common.{◌≡◌, ◌≢◌, ℕ, ◌+◌, ◌<◌, List, length, get_or, None, Some, Ok, Err, refl, arith}
+use Rattle.rules.specs.Query.{Query, start_arrival, first_distance, query_checks}
 use Rattle.rules.specs.Net.{no_distance, Walk, Shortest}
 use Rattle.rules.specs.Trip.{query_net, total, walk_reversals}
+use Rattle.rules.specs.Refusals.{verdict}
+use Rattle.rules.specs.Refused.{verdict_of}
 use Rattle.rules.specs.Search.{refusal, success}
 use Rattle.rules.specs.Sheet.{Sheet, sheet_of, Claims, StartLabel, Accepted, SheetAnswer, refused, bad_claim, bad_label, bad_start, accepted}
+use Rattle.rules.specs.declared.refusal.Refusal.{Refusal}
+use Rattle.rules.specs.declared.refusal.Refusal.TheVariants.{Claim, Label, StartLabel as WrongStart}
 use Rattle.rules.proofs.Lists.{any_default}
+use Rattle.rules.proofs.Refused.{refusal_numbered}
 use Rattle.rules.proofs.Sound.{sound, label_length}
 use Rattle.rules.proofs.Trips.{start_inside, query_few_steps, total_below}
 use Rattle.rules.proofs.SheetAnswers.{accepted_walk}
 use Rattle.train.specs.Asked as asked
-use Rattle.train.proofs.Refusing.{RefusedWith, plan_accepted}
-use Rattle.plan.specs.declared.Checked.{Checked}
-use Rattle.plan.specs.declared.Checked.TheVariants.{Passed, Refused}
+use Rattle.train.proofs.Refusing.{plan_accepted}
 use Rattle.turns.specs.Tables.{Passes}
-use Rattle.sheet.specs.declared.Judged.TheVariants as judged
 use Rattle.sheet.specs.Checking.{SheetPasses, SheetChecked}
 use Rattle.sheet.specs.Answer.{Judges}
 
@@ -29,41 +25,24 @@ use Rattle.sheet.specs.Answer.{Judges}
 pub tables_pass : (q : Query) (n : ℕ) → asked.Accepted q n → Passes q.plan.sections q.plan.turns
 tables_pass q n ok = record { points = q.plan.points; passes = plan_accepted q n ok }
 
--- refused by 1 to 11
-pub turned_away : {q : Query} {h : Sheet} {m p : ℕ} → RefusedWith q (length h.labels) m p → Judges q h (judged.Refused m p)
-turned_away {m = m} {p = p} r = record { numbers = refused (refused_at m p) r.first r.number refl; numbered = r.number }
+module _ {q : Query} {h : Sheet} where
+  -- refused by 1 to 11
+  pub turned_away : (r : Refusal) → verdict (query_checks q (length h.labels)) ≡ verdict_of r → Judges q h (Err r)
+  turned_away r e = record { numbers = refused (verdict_of r) e (refusal_numbered r) refl; claimed = tt }
 
--- an answer refuses or passes
-not_both : {r : Checked} {m p : ℕ} → r ≡ Refused m p → r ≡ Passed → ⊥
-not_both e f = let y : ◌≡◌ {A = ℕ} 0 1 = cc in omega arith
-
-module _ {q : Query} {h : Sheet} {r : Checked} where
   -- refused by 17, 18 or 19
-  refused_numbers : {m p : ℕ} → asked.Accepted q (length h.labels) → SheetChecked q h r → r ≡ Refused m p → SheetAnswer q h (refusal (refused_at m p))
-  refused_numbers ok (SheetChecked.bad_claim i n) e = bad_claim ok n cc
-  refused_numbers ok (SheetChecked.bad_label a i c l n k) e = bad_label a ok c l n k cc
-  refused_numbers ok (SheetChecked.bad_start i c k n) e = bad_start ok c k n cc
-  refused_numbers ok (SheetChecked.good i s) e = absurd (not_both e i)
+  refused_numbers : (r : Refusal) → asked.Accepted q (length h.labels) → SheetChecked q h (Err r) → SheetAnswer q h (refusal (verdict_of r))
+  refused_numbers r ok (SheetChecked.bad_claim i n) = let e : r ≡ Claim = cc in rw e (bad_claim ok n refl)
+  refused_numbers r ok (SheetChecked.bad_label a i c l n k) = let e : r ≡ Label a = cc in rw e (bad_label a ok c l n k refl)
+  refused_numbers r ok (SheetChecked.bad_start i c k n) = let e : r ≡ WrongStart = cc in rw e (bad_start ok c k n refl)
+  refused_numbers r ok (SheetChecked.good i s) = absurd cc
 
-  refused_numbered : {m p : ℕ} → SheetChecked q h r → r ≡ Refused m p → m ≢ 0
-  refused_numbered (SheetChecked.bad_claim i n) e z = let y : ◌≡◌ {A = ℕ} 17 0 = cc in omega arith
-  refused_numbered (SheetChecked.bad_label a i c l n k) e z = let y : ◌≡◌ {A = ℕ} 18 0 = cc in omega arith
-  refused_numbered (SheetChecked.bad_start i c k n) e z = let y : ◌≡◌ {A = ℕ} 19 0 = cc in omega arith
-  refused_numbered (SheetChecked.good i s) e z = not_both e i
-
-  pub judged_refused : {m p : ℕ} → asked.Accepted q (length h.labels) → SheetChecked q h r → r ≡ Refused m p → Judges q h (judged.Refused m p)
-  judged_refused ok k e = record { numbers = refused_numbers ok k e; numbered = refused_numbered k e }
-
-  -- refused by none
-  pub judged_passed : SheetChecked q h r → r ≡ Passed → SheetPasses q h
-  judged_passed (SheetChecked.bad_claim i n) e = absurd (not_both i e)
-  judged_passed (SheetChecked.bad_label a i c l n k) e = absurd (not_both i e)
-  judged_passed (SheetChecked.bad_start i c k n) e = absurd (not_both i e)
-  judged_passed (SheetChecked.good i s) e = s
+  pub judged_refused : (r : Refusal) → asked.Accepted q (length h.labels) → SheetChecked q h (Err r) → Judges q h (Err r)
+  judged_refused r ok k = record { numbers = refused_numbers r ok k; claimed = tt }
 
 module _ (q : Query) {claim : ℕ} {list labels : List ℕ} (ok : asked.Accepted q (length labels)) (P : SheetPasses q (sheet_of claim list labels)) where
-  pub none_accepted : claim ≡ 0 → Judges q (sheet_of claim list labels) (judged.Accepted 0 0 0)
-  none_accepted c = record { numbers = accepted ok P.claims P.rules P.start (Accepted.no_route c refl); numbered = tt }
+  pub none_accepted : claim ≡ 0 → Judges q (sheet_of claim list labels) (Ok None)
+  none_accepted c = record { numbers = accepted ok P.claims P.rules P.start (Accepted.no_route c refl); claimed = c }
 
   pub start_there : start_arrival q < length labels
   start_there = omega (arith, start_inside (sound q (length labels) ok), label_length q (length labels) ok)
@@ -103,5 +82,5 @@ module _ (q : Query) {claim : ℕ} {list labels : List ℕ} (ok : asked.Accepted
     total_fits = omega (arith, total_there, total_below (sound q (length labels) ok) list shortest)
 
     pub walk_accepted : {reversals : ℕ} → reversals ≡ walk_reversals q list
-        → Judges q (sheet_of claim list labels) (judged.Accepted (first_distance q + get_or labels (start_arrival q) 0) reversals (length list))
-    walk_accepted e = record { numbers = rw (e, total_there) answered; numbered = tt }
+        → Judges q (sheet_of claim list labels) (Ok (Some (record { total = first_distance q + get_or labels (start_arrival q) 0; reversals = reversals; steps = length list })))
+    walk_accepted e = record { numbers = rw (e, total_there) answered; claimed = walk_claimed }

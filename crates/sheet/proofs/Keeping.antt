@@ -1,135 +1,77 @@
--- Labels against the table of steps: the rules at an arrival are those of its mark and of its two places; and what the loop over the
--- arrivals keeps and finds.
+-- Labels against the rows: the rules at an arrival are those of its row's end and of its two steps; and what is found of a range of arrivals.
 -- Assumes nothing.
-use mathlib.Core.Path.{◌≡◌}
-use mathlib.Core.Logic.{◌≢◌, ◌↔◌}
-use mathlib.Core.Bool.{Bool, true, false, not}
-use mathlib.Core.List.{List}
-use Prim.Native.Nat.{ℕ, ◌+◌, ◌*◌, ◌/◌, ◌≤◌, ◌<◌}
-use native.Mathlib.Omega.{arith}
-use native.Mathlib.Decide.{ℕ_discrete}
-use borrow.Author.Count.{below_more}
-use borrow.Author.Tests.{leb-true, le-leb}
-use lib.Dec.{leb}
-use lib.ListN.{length, get_or}
-use Rattle.rules.specs.Net.{no_distance, AtMost, above_all, within, KeepsRules}
+use Rattle.std.proofs.Common.{◌≡◌, true, false, Bool, ℕ, ◌≤◌, ◌<◌, List, Option, None, Some, length, refl, arith}
+use denote.Ref.{Bor}
+use denote.Param.Members.{Mut}
+use Rattle.std.specs.declared.ops.Range.{Range}
+use Rattle.std.specs.Iterator.{YieldsThen}
+use Rattle.std.specs.List.{FoldsTo}
+use Rattle.std.specs.Fn.{CalledAt}
+use Rattle.std.specs.Option.{MatchOption}
+use Rattle.std.specs.Prelude.{⊤}
+use Rattle.std.proofs.iter.Yields.{nat_range_steps}
+use Rattle.std.proofs.lemmas.Iterator.{first_from_Range}
+use Rattle.rules.specs.Net.{AtMost, KeepsRules}
 use Rattle.rules.specs.Trip.{Trip, Step, Finish, cost, net_of}
-use Rattle.rules.proofs.Lists.{any_default}
+use Rattle.rules.specs.Rows.{row_at, StepOf, first_of, second_of}
+use Rattle.rules.specs.declared.net.Row.{Row}
+use Rattle.rules.specs.declared.net.Step as net
 use Rattle.steps.specs.StepTable.{Place, EndAt, may_end, goes_on}
 use Rattle.sheet.specs.Laid.{LaidOut}
-use Rattle.sheet.specs.Keeping.{label_at, EndKept, EntryKept, FirstBroken, broken, all_kept}
-use Rattle.sheet.proofs.Says.{says_yes, says_no, told_no, told_yes}
+use Rattle.sheet.specs.Keeping.{label_at, EndKept, StepKept}
+use Rattle.sheet.proofs.Following.{placed}
 
--- a step before a number, from "none" and from a number
-none_before : {l c m : ℕ} → m ≢ no_distance → l ≡ no_distance → AtMost l c m → ⊥
-none_before d e (above_all i) = d i
-none_before d e (within i j) = omega arith
+module _ {t : Trip} {rows : List Row} (labels : List ℕ) (L : LaidOut t rows) (e : length labels ≡ length rows) {a : ℕ} (i : a < length labels) where
+  mark : EndAt t rows a
+  mark = L.endings.at a (omega (arith, L.laid.count))
 
-numbers_kept : {l c m : ℕ} → m ≢ no_distance → AtMost l c m → l ≤ c + m
-numbers_kept d (above_all i) = absurd (d i)
-numbers_kept d (within i j) = j
-
-module _ {l c m : ℕ} where
-  pub before_any : m ≡ no_distance → (true ≡ true) ↔ AtMost l c m
-  before_any e = says_yes (above_all e)
-
-  pub from_none : m ≢ no_distance → l ≡ no_distance → (false ≡ true) ↔ AtMost l c m
-  from_none d e = says_no (none_before d e)
-
-  pub by_sum : m ≢ no_distance → l ≢ no_distance → l < 4294967296 → (leb l (c + m) ≡ true) ↔ AtMost l c m
-  by_sum d e b = (λ t. within (omega arith) (leb-true l (c + m) t), λ k. le-leb l (c + m) (numbers_kept d k))
-
--- the label where a walk may end, as the code reads it
-pub end_by_room : (ends labels : List ℕ) {room a : ℕ} → a < length labels → get_or ends a 0 ≡ 1 → (leb (get_or labels a 0) room ≡ true) ↔ EndKept ends room labels a
-end_by_room ends labels {room} {a} l e =
-    let same = any_default labels a no_distance 0 l in
-    (λ t i. rw same (leb-true (get_or labels a 0) room t), λ k. le-leb (get_or labels a 0) room (rw same at (k e)))
-
--- a place of the table, as the code reads it
-module _ (next costs labels : List ℕ) (a : ℕ) {k b : ℕ} (l : k < length next) (e : b ≡ get_or next k 0) where
-  pub leads_nowhere : length labels ≤ b → (true ≡ true) ↔ EntryKept next costs labels a k
-  leads_nowhere g = says_yes (λ i. absurd (omega (arith, any_default next k no_distance 0 l)))
-
-  pub leads_on : {r : Bool} → a < length labels → b < length labels → (r ≡ true) ↔ AtMost (get_or labels a 0) (get_or costs k 0) (get_or labels b 0)
-      → (r ≡ true) ↔ EntryKept next costs labels a k
-  leads_on i j s =
-      rw (any_default next k no_distance 0 l, ← e, any_default labels a no_distance 0 i, any_default labels b no_distance 0 j) (λ x y. s.0 x, λ h. s.1 (h j))
-
-module _ {t : Trip} {next costs ends : List ℕ} (labels : List ℕ) (L : LaidOut t (length labels) next costs ends) {a : ℕ} (i : a < length labels) where
-  -- the mark of a
-  end_kept : EndKept ends t.room labels a → Finish t a → label_at labels a ≤ t.room
-  end_kept k f = go (L.endings.at a (omega (arith, L.laid.count)))
+  -- what the rules say of the row's end and of a step in it
+  end_of_rules : KeepsRules (net_of t) (label_at labels) a → EndKept (row_at rows a) t.room (label_at labels a)
+  end_of_rules k y = go mark
     where
-      go : EndAt t ends a → label_at labels a ≤ t.room
-      go (may_end j g) = k j
-      go (goes_on j g) = absurd (g f)
+      go : EndAt t rows a → label_at labels a ≤ t.room
+      go (may_end j f) = k.at_finish f
+      go (goes_on j f) = absurd cc
 
-  kept_end : (Finish t a → label_at labels a ≤ t.room) → EndKept ends t.room labels a
-  kept_end k j = go (L.endings.at a (omega (arith, L.laid.count)))
+  step_of_rules : {s : net.Step} → StepOf rows a s → KeepsRules (net_of t) (label_at labels) a → StepKept s labels (label_at labels a)
+  step_of_rules {s} p k j =
+      let x = placed L.laid (omega arith) (omega arith) p refl in
+      rw x.1 (k.at_step s.next x.0)
+
+  -- and the other way round
+  rules_of_row : EndKept (row_at rows a) t.room (label_at labels a) → StepKept (row_at rows a).first labels (label_at labels a)
+      → StepKept (row_at rows a).second labels (label_at labels a) → KeepsRules (net_of t) (label_at labels) a
+  rules_of_row h x y = record { at_finish = finish mark; at_step = λ b s. step b s (L.laid.steps.every a b s) }
     where
-      go : EndAt t ends a → label_at labels a ≤ t.room
-      go (may_end z g) = k g
-      go (goes_on z g) = absurd (omega arith)
+      finish : EndAt t rows a → Finish t a → label_at labels a ≤ t.room
+      finish (may_end j f) z = h j
+      finish (goes_on j f) z = absurd (f z)
 
-  -- a place of a
-  kept_entry : ((b : ℕ) → Step t a b → AtMost (label_at labels a) (cost t a b) (label_at labels b))
-      → (k : ℕ) → 2 * a ≤ k → k ≤ 2 * a + 1 → EntryKept next costs labels a k
-  kept_entry r k low high j =
-      let few = L.laid.sound.few_sections in
-      let x = L.laid.steps.each k (omega (arith, L.laid.count)) (λ z. omega arith) in
-      let half : k / 2 ≡ a = omega arith in
-      rw (x.cost_of, half) (r (get_or next k no_distance) (rw half at x.step))
+      kept : {u : net.Step} → StepOf rows a u → StepKept u labels (label_at labels a)
+      kept (first_of q) = rw q x
+      kept (second_of q) = rw q y
 
-  entry_kept : EntryKept next costs labels a (2 * a) → EntryKept next costs labels a (2 * a + 1) → (b : ℕ) → Step t a b
-      → AtMost (label_at labels a) (cost t a b) (label_at labels b)
-  entry_kept x y b s = go (L.laid.steps.every a b s) (ℕ_discrete (L.laid.steps.every a b s).at (2 * a))
-    where
-      at : (k : ℕ) → k / 2 ≡ a → k < 2 * length labels → get_or next k no_distance ≡ b → EntryKept next costs labels a k → AtMost (label_at labels a) (cost t a b) (label_at labels b)
-      at k half l e h =
-          let few = L.laid.sound.few_sections in
-          let z = L.laid.steps.each k (omega (arith, L.laid.count)) (λ z. omega (arith, s.to, L.laid.count)) in
-          let c : get_or costs k 0 ≡ cost t a b = rw (half, e) at z.cost_of in
-          rw (c, e) at (h (omega (arith, s.to, L.laid.count)))
+      step : (b : ℕ) → Step t a b → Place rows a b → AtMost (label_at labels a) (cost t a b) (label_at labels b)
+      step b s p =
+          let c = placed L.laid (omega arith) (omega (arith, s.to, L.laid.count)) p.place p.leads in
+          let r = kept p.place in
+          rw (c.1, p.leads) at (r (omega (arith, p.leads, s.to, L.laid.count)))
 
-      go : (p : Place next a b) → Dec (p.at ≡ 2 * a) → AtMost (label_at labels a) (cost t a b) (label_at labels b)
-      go p (yes q) = at (2 * a) (omega arith) (omega arith) (rw q at p.leads) x
-      go p (no q) =
-          let h : p.at ≡ 2 * a + 1 = omega (arith, p.low, p.high) in
-          at (2 * a + 1) (omega arith) (omega arith) (rw h at p.leads) y
+  -- both, of the row and the label as they are read
+  pub row_rules : {row : Row} {before room : ℕ} → row ≡ row_at rows a → before ≡ label_at labels a → room ≡ t.room
+      → (EndKept row room before → StepKept row.first labels before → StepKept row.second labels before → KeepsRules (net_of t) (label_at labels) a)
+      × (KeepsRules (net_of t) (label_at labels) a → EndKept row room before × StepKept row.first labels before × StepKept row.second labels before)
+  row_rules p q m = rw (p, q, m) (rules_of_row, λ k. (end_of_rules k, step_of_rules (first_of refl) k, step_of_rules (second_of refl) k))
 
-  -- the rules as the code comes to them: the mark, the first place and the second
-  module _ {room : ℕ} (e : room ≡ t.room) where
-    pub rules_end : {r : Bool} → (r ≡ true) ↔ EndKept ends room labels a → not r ≡ true → (false ≡ true) ↔ KeepsRules (net_of t) (label_at labels) a
-    rules_end s h = says_no (λ k. told_no s h (rw e (kept_end k.at_finish)))
-
-    pub rules_first : {r : Bool} → (r ≡ true) ↔ EntryKept next costs labels a (2 * a) → not r ≡ true → (false ≡ true) ↔ KeepsRules (net_of t) (label_at labels) a
-    rules_first s h = says_no (λ k. told_no s h (kept_entry k.at_step (2 * a) (omega arith) (omega arith)))
-
-    pub rules_second : {r s z : Bool} → (r ≡ true) ↔ EndKept ends room labels a → not r ≡ false → (s ≡ true) ↔ EntryKept next costs labels a (2 * a) → not s ≡ false
-        → (z ≡ true) ↔ EntryKept next costs labels a (2 * a + 1) → (z ≡ true) ↔ KeepsRules (net_of t) (label_at labels) a
-    rules_second x h y k w = (
-      λ q. record { at_finish = end_kept (rw e at (told_yes x h)); at_step = entry_kept (told_yes y k) (w.0 q) },
-      λ q. w.1 (kept_entry q.at_step (2 * a + 1) (omega arith) (omega arith)),
-    )
-
--- the loop has come to a: the rules are kept at each arrival before it
-pub record KeptTo (next costs ends : List ℕ) (room : ℕ) (labels : List ℕ) (a : ℕ) : Type 0 where
-  pub within : a ≤ length labels
-  pub kept : (t : Trip) → LaidOut t (length labels) next costs ends → room ≡ t.room → (b : ℕ) → b < a → KeepsRules (net_of t) (label_at labels) b
-
-pub kept_none : {next costs ends : List ℕ} {room : ℕ} {labels : List ℕ} → KeptTo next costs ends room labels 0
-kept_none = record { within = omega arith; kept = λ t L e b l. absurd (omega arith) }
-
-module _ {next costs ends : List ℕ} {room : ℕ} {labels : List ℕ} {a : ℕ} (K : KeptTo next costs ends room labels a) where
-  module _ {r : Bool} (l : a < length labels)
-      (s : (t : Trip) → LaidOut t (length labels) next costs ends → room ≡ t.room → (r ≡ true) ↔ KeepsRules (net_of t) (label_at labels) a) where
-    pub kept_more : not r ≡ false → KeptTo next costs ends room labels (a + 1)
-    kept_more h = record { within = omega arith; kept = λ t L e. below_more (λ b. KeepsRules (net_of t) (label_at labels) b) a (K.kept t L e) (told_yes (s t L e) h) }
-
-    pub broken_here : not r ≡ true → (t : Trip) → LaidOut t (length labels) next costs ends → room ≡ t.room
-        → FirstBroken (net_of t) (label_at labels) (length labels) a
-    broken_here h t L e = broken l (told_no (s t L e) h) (K.kept t L e)
-
-  pub kept_all : length labels ≤ a → (t : Trip) → LaidOut t (length labels) next costs ends → room ≡ t.room
-      → FirstBroken (net_of t) (label_at labels) (length labels) a
-  kept_all g t L e = let z : a ≡ length labels = omega (arith, K.within) in all_kept z (rw z at (K.kept t L e))
+-- what `find` tells of the numbers below n: the first that does not keep the rules
+pub first_from : {F : Type 0} {g : Mut F (Bor ℕ × Unit {0}) Bool} (s u : Range ℕ) (c : F) (r : Option ℕ) (Keeps : ℕ → Type 0) (n : ℕ)
+    → (xs : List ℕ) × (j : F) × YieldsThen nat_range_steps s xs r u × FoldsTo (λ p x q. CalledAt g p x false q) c xs j × MatchOption r ⊤ (λ x. (h : F) × CalledAt g j x true h)
+    → s.start ≡ 0 → s.end ≡ n → ((x : ℕ) (q : F) → CalledAt g c x true q → Keeps x → ⊥) → ((x : ℕ) (q : F) → CalledAt g c x false q → (q ≡ c) × Keeps x)
+    → MatchOption r ((b : ℕ) → b < n → Keeps b) (λ a. (a < n) × (Keeps a → ⊥) × ((b : ℕ) → b < a → Keeps b))
+first_from {F} {g} s u c r Keeps n ran a b yes' no' = go r (first_from_Range {g = g} s u c r (λ k. Keeps k → ⊥) Keeps ran yes' no')
+  where
+    go : (r : Option ℕ)
+        → MatchOption r ((k : ℕ) → s.start ≤ k → k < s.end → Keeps k) (λ i. (s.start ≤ i) × (i < s.end) × (Keeps i → ⊥) × ((k : ℕ) → s.start ≤ k → k < i → Keeps k))
+        → MatchOption r ((b : ℕ) → b < n → Keeps b) (λ a. (a < n) × (Keeps a → ⊥) × ((b : ℕ) → b < a → Keeps b))
+    go None h = λ k l. h k (omega (arith, a)) (omega (arith, b))
+    go (Some i) h = (omega (arith, h.1, b), h.2, λ k l. h.3 k (omega (arith, a)) l)

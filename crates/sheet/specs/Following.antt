@@ -1,17 +1,13 @@
 -- What is found of a list of arrivals that is followed over the table of steps.
 -- Assumes nothing.
-use Rattle.std.specs.Prelude.{◌≡◌, List, ℕ, ◌<◌, min}
+use Rattle.std.specs.Prelude.{◌≡◌, List, ℕ, min, Option, MatchOption}
 use Rattle.rules.specs.Net.{no_distance, Net, Walk, costs}
 use Rattle.rules.specs.Trip.{Trip, Step, cost}
-use Rattle.sheet.specs.declared.walk.Followed.{Followed}
-use Rattle.sheet.specs.declared.walk.Followed.TheVariants.{Off, Costs}
 
--- the step from a to b costs r, or there is none and r is 0
-pub data StepCost (t : Trip) (a b r : ℕ) : Type 0 where
-  no_step : r ≡ 0 → (Step t a b → ⊥) → StepCost t a b r
-  one_step : 0 < r → Step t a b → r ≡ cost t a b → StepCost t a b r
+-- there is no step from a to b, or there is one and it costs so much
+abbrev pub StepCost : Trip → ℕ → ℕ → Option ℕ → Type 0
+StepCost t a b r = MatchOption r (Step t a b → ⊥) (λ c. Step t a b × (c ≡ cost t a b))
 
 -- the list is no walk from a, or it is one; its costs are exact below "none", and "none" from there on
-pub data WalkFound (N : Net) (a : ℕ) (bs : List ℕ) (r : Followed) : Type 0 where
-  off : r ≡ Off → (Walk N a bs → ⊥) → WalkFound N a bs r
-  walked : (s : ℕ) → r ≡ Costs s → Walk N a bs → s ≡ min (costs N a bs) no_distance → WalkFound N a bs r
+abbrev pub WalkFound : Net → ℕ → List ℕ → Option ℕ → Type 0
+WalkFound N a bs r = MatchOption r (Walk N a bs → ⊥) (λ s. Walk N a bs × (s ≡ min (costs N a bs) no_distance))

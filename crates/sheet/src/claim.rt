@@ -1,96 +1,60 @@
-// Refusals 17, 18 and 19 of a sheet, over the tables of its query.
-ghost use Rattle.std.specs.Prelude.{◌≡◌, List, ℕ, ◌<◌, length};
+// Refusals 17, 18 and 19 of a sheet, over the table of its query.
+ghost use Rattle.std.specs.Prelude.{◌≡◌, ℕ, ◌≤◌, ◌<◌, length};
 ghost use Rattle.rules.specs.Query.{Query};
 ghost use Rattle.rules.specs.Trip.{Trip, net_of};
-ghost use Rattle.rules.specs.Sheet.{sheet_of};
-ghost use Rattle.sheet.specs.Laid.{Places, LaidOut, Prepared};
+ghost use Rattle.sheet.specs.Lent.{sheet_lent};
+ghost use Rattle.sheet.specs.Laid.{LaidOut, Prepared};
 ghost use Rattle.sheet.specs.Keeping.{label_at};
 ghost use Rattle.sheet.specs.Checking.{DueLabel, LabelsChecked, SheetChecked};
 
+use crate::Sheet;
 use crate::rule::first_broken;
-use crate::walk::{Followed, follow};
-use plan::Checked;
-use plan::read::wide;
+use crate::walk::follow;
 use rules::NO_DISTANCE;
+use rules::net::NetTable;
+use rules::refusal::Refusal;
 
-// What the start label has to be, if the claim and the list go together.
-#[derive(Clone, Copy)]
-pub enum Due {
-    Nothing,
-    Label(usize),
-}
-
-// Refusal 17: no route and no list, or a walk and a list that is one.
-fn start_due(
-    next: &[u32],
-    cost: &[u32],
-    ends: &[u32],
-    room: u32,
-    count: usize,
-    from: usize,
-    claim: u32,
-    list: &[u32],
-) -> Due
-    requires { Places count next.now cost.now ends.now × (from < count) }
-    ensures { (q : Query) (labels : List ℕ) → Prepared q count next.now cost.now ends.now room from → DueLabel q (sheet_of claim list.now labels) result }
+// What the start label has to be, if the claim and the list go together: no route and no list, or a walk and a list that is one.
+fn start_due(net: &NetTable, from: usize, sheet: &Sheet) -> Option<usize>
+    requires { from < length net.now.rows.now }
+    ensures { (q : Query) → Prepared q net.now from → DueLabel q (sheet_lent sheet.now) result }
 {
-    if claim == 0 {
-        if list.len() == 0 {
-            return Due::Label(wide(NO_DISTANCE));
-        }
-        return Due::Nothing;
+    if sheet.claim == 0 && sheet.list.is_empty() {
+        return Some(NO_DISTANCE as usize);
     }
-    if claim != 1 {
-        return Due::Nothing;
+    if sheet.claim != 1 {
+        return None;
     }
-    let followed = follow(next, cost, ends, count, from, list);
-    match followed {
-        Followed::Off => Due::Nothing,
-        Followed::Costs(sum) => Due::Label(wide(sum) + wide(room)),
-    }
+    let sum = follow(net, from, sheet.list)?;
+    Some(sum as usize + net.room as usize)
 }
 
 // Refusals 18 and 19, where the label of the arrival `from` has to be the number due.
-fn check_labels(
-    next: &[u32],
-    cost: &[u32],
-    ends: &[u32],
-    room: u32,
-    from: usize,
-    due: usize,
-    labels: &[u32],
-) -> Checked
-    requires { Places (length labels.now) next.now cost.now ends.now × (from < length labels.now) }
-    ensures { (t : Trip) → LaidOut t (length labels.now) next.now cost.now ends.now → room ≡ t.room → LabelsChecked (net_of t) (label_at labels.now) (length labels.now) from due result }
+fn check_labels(net: &NetTable, from: usize, due: usize, labels: &[u32]) -> Result<(), Refusal>
+    requires few { length labels.now ≤ 2048 }
+    requires one_each { length labels.now ≡ length net.now.rows.now }
+    requires from_in_bounds { from < length labels.now }
+    ensures number { label_at labels.now from < 4294967296 }
+    ensures answer { (t : Trip) → LaidOut t net.now.rows.now → net.now.room ≡ t.room → LabelsChecked (net_of t) (label_at labels.now) (length labels.now) from due result }
 {
-    let bad = first_broken(next, cost, ends, room, labels);
-    if bad < labels.len() {
-        return Checked::Refused(18, bad as u32);
+    if let Some(bad) = first_broken(net, labels) {
+        return Err(Refusal::Label(bad as u32));
     }
-    if wide(labels[from]) != due {
-        return Checked::Refused(19, 0);
+    if labels[from] as usize != due {
+        return Err(Refusal::StartLabel);
     }
-    Checked::Passed
+    Ok(())
 }
 
 // Refusals 17, 18 and 19 in their order.
-pub(crate) fn check_claim(
-    next: &[u32],
-    cost: &[u32],
-    ends: &[u32],
-    room: u32,
-    from: usize,
-    claim: u32,
-    list: &[u32],
-    labels: &[u32],
-) -> Checked
-    requires { Places (length labels.now) next.now cost.now ends.now × (from < length labels.now) }
-    ensures { (q : Query) → Prepared q (length labels.now) next.now cost.now ends.now room from → SheetChecked q (sheet_of claim list.now labels.now) result }
+pub(crate) fn check_claim(net: &NetTable, from: usize, sheet: &Sheet) -> Result<(), Refusal>
+    requires few { length sheet.now.labels.now ≤ 2048 }
+    requires one_each { length sheet.now.labels.now ≡ length net.now.rows.now }
+    requires from_in_bounds { from < length sheet.now.labels.now }
+    ensures { (q : Query) → Prepared q net.now from → SheetChecked q (sheet_lent sheet.now) result }
 {
-    let count = labels.len();
-    let due = start_due(next, cost, ends, room, count, from, claim, list);
-    match due {
-        Due::Nothing => Checked::Refused(17, 0),
-        Due::Label(label) => { check_labels(next, cost, ends, room, from, label, labels) }
-    }
+    let Some(due) = start_due(net, from, sheet) else {
+        return Err(Refusal::Claim);
+    };
+    check_labels(net, from, due, sheet.labels)
 }

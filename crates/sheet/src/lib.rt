@@ -13,139 +13,66 @@ mod rule;
 mod tables;
 mod walk;
 
-ghost use Rattle.std.specs.Prelude.{◌≡◌, length as length_of};
-ghost use Rattle.rules.specs.Plan.{plan_of};
-ghost use Rattle.rules.specs.Refusals.{verdict, passed};
-ghost use Rattle.rules.specs.PlanCheck.{plan_checks};
-ghost use Rattle.rules.specs.Query.{query_of};
-ghost use Rattle.rules.specs.Sheet.{sheet_of};
-ghost use Rattle.plan.specs.Ends.{Slots};
-ghost use Rattle.train.specs.Asked.{query_asked, Accepted};
-ghost use Rattle.turns.specs.Tables.{TurnTable};
+ghost use Rattle.std.specs.Prelude.{Ok};
+ghost use Rattle.train.specs.Asked.{query_lent};
+ghost use Rattle.sheet.specs.Lent.{sheet_lent, ReadyFor};
 ghost use Rattle.sheet.specs.Checking.{SheetPasses};
 ghost use Rattle.sheet.specs.Answer.{Judges};
 
 use plan::slots::NO_SECTION;
-use plan::{Checked, check_and_index};
-use steps::reversals::count_reversals;
+use rules::refusal::Refusal;
+use rules::route::Route;
+use steps::Trip;
 use tables::check_over_steps;
-use train::place::{first_distance, start_arrival};
-use train::{Asked, check_train};
+use train::Query;
 use turns::turn_table::turn_table;
 
-// What is answered: an accepted list's total, reversals and steps (zeros for "no route"), or a refusal's number and place.
+// A sheet as it is lent: the claim (0 no route, 1 walk), the list of arrivals, and a label for each arrival of the plan.
 #[derive(Clone, Copy)]
-pub enum Judged {
-    Accepted(u32, u32, u32),
-    Refused(u32, u32),
+pub struct Sheet<'a> {
+    pub claim: u32,
+    pub list: &'a [u32],
+    pub labels: &'a [u32],
 }
 
-// The numbers of a sheet that passes.
-fn accept(
-    sections: &[u32],
-    turns: &[u32],
-    table: &[u32; 1536],
-    asked: Asked,
-    claim: u32,
-    list: &[u32],
-    labels: &[u32],
-) -> Judged
-    requires { Accepted (query_asked asked sections.now turns.now) (length_of labels.now) × TurnTable sections.now turns.now table.now × SheetPasses (query_asked asked sections.now turns.now) (sheet_of claim list.now labels.now) }
-    ensures { Judges (query_asked asked sections.now turns.now) (sheet_of claim list.now labels.now) result }
+// What is answered to a sheet that passes.
+fn accept(trip: &Trip, sheet: &Sheet) -> Option<Route>
+    requires ready { ReadyFor trip.now sheet.now }
+    requires passes { SheetPasses (query_lent trip.now.query) (sheet_lent sheet.now) }
+    ensures { Judges (query_lent trip.now.query) (sheet_lent sheet.now) (Ok result) }
 {
-    if claim == 0 {
-        return Judged::Accepted(0, 0, 0);
+    if sheet.claim == 0 {
+        return None;
     }
-    let from = start_arrival(asked.start, asked.leave);
-    let total = first_distance(sections, asked.start, asked.leave) + labels[from];
-    let steps = list.len();
-    let reversals = count_reversals(sections, turns, table, from as u32, list, steps);
-    Judged::Accepted(total, reversals, steps as u32)
+    let from = trip.query.start_arrival();
+    let total = trip.query.first_distance() + sheet.labels[from];
+    let reversals = trip.count_reversals(from as u32, sheet.list);
+    let steps = sheet.list.len() as u32;
+    Some(Route {
+        total,
+        reversals,
+        steps,
+    })
 }
 
-// Refusals 17 to 19 and acceptance, where 1 to 11 do not apply.
-fn judge(
-    sections: &[u32],
-    turns: &[u32],
-    slots: &[u32; 2304],
-    asked: Asked,
-    claim: u32,
-    list: &[u32],
-    labels: &[u32],
-) -> Judged
-    requires { Accepted (query_asked asked sections.now turns.now) (length_of labels.now) × Slots sections.now slots.now }
-    ensures { Judges (query_asked asked sections.now turns.now) (sheet_of claim list.now labels.now) result }
+// Judges a sheet of a query: any numbers, any lengths of the tables, of the list and of the labels. An accepted list is answered by its
+// numbers, an accepted "no route" by none. A total never wraps: the sum of a list's costs stops at "none", and a list that costs so much
+// has no label that matches.
+pub fn check_sheet(query: &Query, sheet: &Sheet) -> Result<Option<Route>, Refusal>
+    ensures { Judges (query_lent query.now) (sheet_lent sheet.now) result }
 {
-    let table = turn_table(sections, turns);
-    let checked = check_over_steps(sections, turns, slots, &table, asked, claim, list, labels);
-    match checked {
-        Checked::Refused(number, arrival) => Judged::Refused(number, arrival),
-        Checked::Passed => accept(sections, turns, &table, asked, claim, list, labels),
-    }
-}
-
-// Refusals 7 to 11, where the plan has passed, and then the others.
-fn judge_plan(
-    sections: &[u32],
-    turns: &[u32],
-    slots: &[u32; 2304],
-    asked: Asked,
-    claim: u32,
-    list: &[u32],
-    labels: &[u32],
-) -> Judged
-    requires { (verdict (plan_checks (plan_of asked.points sections.now turns.now)) ≡ passed) × Slots sections.now slots.now }
-    ensures { Judges (query_asked asked sections.now turns.now) (sheet_of claim list.now labels.now) result }
-{
-    let checked = check_train(
-        sections,
-        asked.length,
-        asked.start,
-        asked.leave,
-        asked.finish,
-        asked.enter,
-    );
-    match checked {
-        Checked::Refused(number, place) => Judged::Refused(number, place),
-        Checked::Passed => {
-            if labels.len() != 2 * (sections.len() / 6) {
-                return Judged::Refused(11, 0);
-            }
-            judge(sections, turns, slots, asked, claim, list, labels)
-        }
-    }
-}
-
-// Judges the sheet of a train of this length from the section start, which it leaves by the end leave, to the section finish, which it
-// enters by the end enter: any numbers, any lengths of the tables, of the list and of the labels. A total never wraps: the sum of a
-// list's costs stops at "none", and a list that costs so much has no label that matches.
-pub fn check_sheet(
-    points: u32,
-    sections: &[u32],
-    turns: &[u32],
-    length: u32,
-    start: u32,
-    leave: u32,
-    finish: u32,
-    enter: u32,
-    claim: u32,
-    list: &[u32],
-    labels: &[u32],
-) -> Judged
-    ensures { Judges (query_of (plan_of points sections.now turns.now) length start leave finish enter) (sheet_of claim list.now labels.now) result }
-{
-    let asked = Asked {
-        points,
-        length,
-        start,
-        leave,
-        finish,
-        enter,
-    };
     let mut slots = [NO_SECTION; 2304];
-    let checked = check_and_index(points, sections, turns, &mut slots);
-    match checked {
-        Checked::Refused(number, place) => Judged::Refused(number, place),
-        Checked::Passed => judge_plan(sections, turns, &slots, asked, claim, list, labels),
+    query.plan.check_and_index(&mut slots)?;
+    query.check_train()?;
+    if sheet.labels.len() != 2 * query.plan.section_count() as usize {
+        return Err(Refusal::Labels);
     }
+    let turns = turn_table(&query.plan);
+    let trip = Trip {
+        query: *query,
+        slots: &slots,
+        turns: &turns,
+    };
+    check_over_steps(&trip, sheet)?;
+    Ok(accept(&trip, sheet))
 }

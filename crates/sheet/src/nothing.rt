@@ -1,51 +1,25 @@
 // A sheet that says nothing but that there is no route, and is right at once.
-ghost use Rattle.std.specs.Prelude.{◌≡◌, true, ℕ, length, get_or};
+ghost use Rattle.std.specs.Prelude.{◌≡◌, true, ℕ, get_or};
 ghost use Rattle.rules.specs.Net.{no_distance};
-ghost use Rattle.rules.specs.Sheet.{sheet_of};
-ghost use Rattle.train.specs.Asked.{query_asked, Accepted};
-ghost use Rattle.turns.specs.Tables.{Tables};
+ghost use Rattle.train.specs.Asked.{query_lent};
+ghost use Rattle.sheet.specs.Lent.{sheet_lent, ReadyFor};
 ghost use Rattle.sheet.specs.Checking.{SheetPasses};
 
+use crate::Sheet;
 use rules::NO_DISTANCE;
-use steps::ends::has_end;
-use train::Asked;
+use steps::Trip;
 
 // No label is a number.
 fn all_none(labels: &[u32]) -> bool
     ensures { result ≡ true → (a : ℕ) → get_or labels.now a no_distance ≡ no_distance }
 {
-    let mut a = 0;
-    while a < labels.len() {
-        if labels[a] != NO_DISTANCE {
-            return false;
-        }
-        a += 1;
-    }
-    true
+    labels.iter().all(|label| *label == NO_DISTANCE)
 }
 
 // The sheet claims no route, lists and labels nothing, and no walk can end: no rule is left that it could break.
-pub(crate) fn claims_nothing(
-    sections: &[u32],
-    turns: &[u32],
-    slots: &[u32; 2304],
-    table: &[u32; 1536],
-    asked: Asked,
-    claim: u32,
-    list: &[u32],
-    labels: &[u32],
-) -> bool
-    requires { Accepted (query_asked asked sections.now turns.now) (length labels.now) × Tables sections.now turns.now slots.now table.now }
-    ensures { result ≡ true → SheetPasses (query_asked asked sections.now turns.now) (sheet_of claim list.now labels.now) }
+pub(crate) fn claims_nothing(trip: &Trip, sheet: &Sheet) -> bool
+    requires { ReadyFor trip.now sheet.now }
+    ensures { result ≡ true → SheetPasses (query_lent trip.now.query) (sheet_lent sheet.now) }
 {
-    if claim != 0 {
-        return false;
-    }
-    if list.len() != 0 {
-        return false;
-    }
-    if has_end(sections, slots, asked.finish, asked.enter) {
-        return false;
-    }
-    all_none(labels)
+    sheet.claim == 0 && sheet.list.is_empty() && !trip.has_end() && all_none(sheet.labels)
 }

@@ -1,75 +1,42 @@
 // Whether a list is an admissible walk, and what its steps cost: one look at the table for each arrival of the list.
-ghost use Rattle.std.specs.Prelude.{◌≡◌, ◌+◌, ◌*◌, ◌≤◌, ◌<◌, min, length};
-ghost use Rattle.rules.specs.Net.{no_distance};
+ghost use Rattle.std.specs.Prelude.{◌<◌, ⊤, length, MatchOption};
 ghost use Rattle.rules.specs.Trip.{Trip, net_of};
-ghost use Rattle.sheet.specs.Laid.{Places, Laid, LaidOut};
+ghost use Rattle.sheet.specs.Laid.{Laid, LaidOut};
 ghost use Rattle.sheet.specs.Following.{StepCost, WalkFound};
 
-use plan::read::wide;
-use rules::NO_DISTANCE;
+use rules::net::NetTable;
 
-// What is found of a list: it is no walk, or its steps cost so much.
-#[derive(Clone, Copy)]
-pub enum Followed {
-    Off,
-    Costs(u32),
-}
-
-// A sum that stays at "none" once it has come so far, so that a list of any length has one.
-fn capped_sum(sum: u32, more: u32) -> u32
-    ensures { result ≡ min (sum + more) no_distance }
+// What the step from arrival a to arrival b costs.
+fn step_cost(net: &NetTable, a: usize, b: u32) -> Option<u32>
+    requires { a < length net.now.rows.now }
+    ensures inside { MatchOption result ⊤ (λ c. b < length net.now.rows.now) }
+    ensures cost { (t : Trip) → Laid t net.now.rows.now → StepCost t a b result }
 {
-    if more < NO_DISTANCE - sum {
-        return sum + more;
+    if b as usize >= net.rows.len() {
+        return None;
     }
-    NO_DISTANCE
+    let row = &net.rows[a];
+    if row.first.next == b {
+        return Some(row.first.cost);
+    }
+    if row.second.next == b {
+        return Some(row.second.cost);
+    }
+    None
 }
 
-// What the step from arrival a to arrival b costs, or 0 where there is none: every step costs something.
-fn step_cost(next: &[u32], cost: &[u32], count: usize, a: usize, b: u32) -> u32
-    requires { (a < count) × (count ≤ 2048) × (2 * count ≤ length next.now) × (2 * count ≤ length cost.now) }
-    ensures { (0 < result → b < count) × ((t : Trip) → Laid t count next.now cost.now → StepCost t a b result) }
-{
-    if wide(b) >= count {
-        return 0;
-    }
-    let at = 2 * a;
-    if next[at] == b {
-        return cost[at];
-    }
-    if next[at + 1] == b {
-        return cost[at + 1];
-    }
-    0
-}
-
-// Follows the list from one arrival.
-pub(crate) fn follow(
-    next: &[u32],
-    cost: &[u32],
-    ends: &[u32],
-    count: usize,
-    from: usize,
-    list: &[u32],
-) -> Followed
-    requires { Places count next.now cost.now ends.now × (from < count) }
-    ensures { (t : Trip) → LaidOut t count next.now cost.now ends.now → WalkFound (net_of t) from list.now result }
+// What the steps of the list cost from one arrival, if it is a walk from there. The sum stays at "none" once it has come so far, so that a
+// list of any length has one.
+pub(crate) fn follow(net: &NetTable, from: usize, list: &[u32]) -> Option<u32>
+    requires { from < length net.now.rows.now }
+    ensures { (t : Trip) → LaidOut t net.now.rows.now → WalkFound (net_of t) from list.now result }
 {
     let mut a = from;
-    let mut sum = 0;
-    let mut i = 0;
-    while i < list.len() {
-        let b = list[i];
-        let more = step_cost(next, cost, count, a, b);
-        if more == 0 {
-            return Followed::Off;
-        }
-        sum = capped_sum(sum, more);
-        a = wide(b);
-        i += 1;
+    let mut sum: u32 = 0;
+    for b in list {
+        let more = step_cost(net, a, *b)?;
+        sum = sum.saturating_add(more);
+        a = *b as usize;
     }
-    if ends[a] == 1 {
-        return Followed::Costs(sum);
-    }
-    Followed::Off
+    if net.rows[a].ends { Some(sum) } else { None }
 }

@@ -10,7 +10,7 @@ use Rattle.rules.proofs.Sound.{at_both_ends}
 use Rattle.plan.proofs.Touching.{touch_A, touch_B}
 use Rattle.turns.specs.Tables.{Passes, Arrived}
 use Rattle.turns.proofs.Entering.{arrived_low}
-use Rattle.pullout.proofs.Asking.{comes}
+use Rattle.turns.proofs.Entering.{comes}
 
 -- p is the point to which a comes, as it was read
 module _ {ss : List ℕ} (a : ℕ) {p : ℕ} (l : a < arrivals (of_sections ss)) (i : p ≡ to_point (of_sections ss) a) where

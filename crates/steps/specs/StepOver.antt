@@ -1,28 +1,35 @@
--- The step over one section, and the two places of an arrival.
+-- The step over one section, and the row of an arrival.
 -- Assumes nothing.
-use Rattle.std.specs.Prelude.{◌≡◌, ◌≢◌, ◌⊎◌, Bool, cond, List, [], ℕ, ◌+◌, ◌*◌, ◌≤◌, ◌<◌, eqb, get_or, set}
-use Rattle.rules.specs.Plan.{plan_of, of_sections, section_count, end_A, arrivals, to_point, sec}
-use Rattle.rules.specs.Query.{query_of}
+use Rattle.std.specs.Prelude.{◌≡◌, ◌≢◌, ◌⊎◌, Bool, cond, List, ℕ, ◌+◌, ◌*◌, ◌≤◌, ◌<◌, eqb, Option, MatchOption}
+use Rattle.rules.specs.Plan.{of_sections, section_count, end_A, arrivals, to_point, sec}
 use Rattle.rules.specs.Net.{no_distance}
-use Rattle.rules.specs.Trip.{Trip, Step, cost, trip_of}
-use Rattle.turns.specs.Tables.{Passes, TurnTable, Arrived}
-use Rattle.steps.specs.declared.step.Train.{Train}
+use Rattle.rules.specs.Trip as rules
+use Rattle.rules.specs.declared.net.Row.{Row}
+use Rattle.rules.specs.declared.net.Step as rows
+use Rattle.plan.specs.Lent.{plan_lent}
+use Rattle.train.specs.Asked.{query_lent}
+use Rattle.turns.specs.Tables.{Tables, Arrived}
+use Rattle.steps.specs.declared.trip.Trip.{Trip}
 use Rattle.steps.specs.Served.{Served}
+use Rattle.steps.specs.StepTable.{Entry}
 
--- the trip of a train; the number of points and the ends by which it leaves and enters are of no matter to its steps
-abbrev pub trip : List ℕ → List ℕ → Train → ℕ → ℕ → ℕ → Trip
-trip ss ts train v e g = trip_of (query_of (plan_of v ss ts) train.length train.start e train.finish g)
+-- what the rules say of the query of a trip
+abbrev pub rules_trip : Trip → rules.Trip
+rules_trip t = rules.trip_of (query_lent t.query)
 
 -- whether a step of it may enter section s
-abbrev pub may_enter : List ℕ → Train → ℕ → Bool
-may_enter ss train = (trip ss [] train 0 0 0).may_step
+abbrev pub may_enter : Trip → ℕ → Bool
+may_enter t = (rules_trip t).may_step
+
+-- the plan of a trip passes, and its tables are right
+abbrev pub RightTables : Trip → Type 0
+RightTables t = Tables t.query.plan.sections.now t.query.plan.turns.now t.slots.now t.turns.now
 
 -- all that is known of the tables that are read for a step
-pub record StepTables (ss ts table served : List ℕ) (train : Train) : Type 0 where
-  pub checked : Passes ss ts
-  pub turned : TurnTable ss ts table
-  pub serving : (v : ℕ) → Served (plan_of v ss ts) (may_enter ss train) train.length served
-  pub short : train.length ≤ 20000
+pub record StepTables (t : Trip) (served : List Bool) : Type 0 where
+  pub tables : RightTables t
+  pub serving : Served (plan_lent t.query.plan) (may_enter t) t.query.length served
+  pub short : t.query.length ≤ 20000
 
 -- the arrival a has come to p; where s is a section, it is another one at p
 pub record Meets (ss : List ℕ) (a p s : ℕ) : Type 0 where
@@ -39,27 +46,31 @@ arrival_over ss s p = 2 * s + cond (eqb (end_A (of_sections ss) s) p) 1 0
 abbrev pub other_than : ℕ → ℕ → ℕ → ℕ
 other_than c x y = cond (eqb x c) y x
 
--- the step from arrival a over section s leads to b and costs k, or b is "none" and there is no such step
-pub record StepOver (t : Trip) (a s b k : ℕ) : Type 0 where
-  pub over : b ≢ no_distance → sec b ≡ s
-  pub step : b ≢ no_distance → Step t a b
-  pub cost_of : b ≢ no_distance → k ≡ cost t a b
-  pub only : (d : ℕ) → Step t a d → sec d ≡ s → d ≡ b
+-- x is an admissible step from arrival a over section s, with its cost, and there is no other
+pub record OnlyStep (t : rules.Trip) (a s : ℕ) (x : rows.Step) : Type 0 where
+  pub over : sec x.next ≡ s
+  pub entry : Entry t a x
+  pub only : (d : ℕ) → rules.Step t a d → sec d ≡ s → d ≡ x.next
 
--- the steps from arrival a, over two sections in ascending order: to b at the cost k, and to d at the cost l
-pub record StepsFrom (t : Trip) (a b k d l : ℕ) : Type 0 where
+-- there is no step from arrival a over section s
+abbrev pub NoStep : rules.Trip → ℕ → ℕ → Type 0
+NoStep t a s = (d : ℕ) → rules.Step t a d → sec d ≡ s → ⊥
+
+-- r is the step from arrival a over section s, or there is none
+abbrev pub StepOver : rules.Trip → ℕ → ℕ → Option rows.Step → Type 0
+StepOver t a s r = MatchOption r (NoStep t a s) (OnlyStep t a s)
+
+-- what a row has for the step from arrival a over section s: the step, or what leads to "none" where there is none
+pub record Held (t : rules.Trip) (a s : ℕ) (x : rows.Step) : Type 0 where
+  pub over : x.next ≢ no_distance → sec x.next ≡ s
+  pub entry : x.next ≢ no_distance → Entry t a x
+  pub only : (d : ℕ) → rules.Step t a d → sec d ≡ s → d ≡ x.next
+
+-- the row has the steps from arrival a, over two sections in ascending order
+pub record StepsFrom (t : rules.Trip) (a : ℕ) (row : Row) : Type 0 where
   pub low : ℕ
   pub high : ℕ
-  pub first : StepOver t a low b k
-  pub second : StepOver t a high d l
+  pub first : Held t a low row.first
+  pub second : Held t a high row.second
   pub ascending : high ≢ no_distance → low < high
-  pub all : (n : ℕ) → Step t a n → (sec n ≡ low) ⊎ (sec n ≡ high)
-
--- they stand at the two places of a
-abbrev pub Placed : Trip → List ℕ → List ℕ → ℕ → Type 0
-Placed t next costs a =
-    StepsFrom t a (get_or next (2 * a) no_distance) (get_or costs (2 * a) 0) (get_or next (2 * a + 1) no_distance) (get_or costs (2 * a + 1) 0)
-
--- two numbers written there
-abbrev pub pair_at : List ℕ → ℕ → ℕ → ℕ → List ℕ
-pair_at l a x y = set (set l (2 * a) x) (2 * a + 1) y
+  pub all : (n : ℕ) → rules.Step t a n → (sec n ≡ low) ⊎ (sec n ≡ high)

@@ -1,36 +1,41 @@
--- The steps of a trip as plain numbers. Arrival a has two places in the table, 2a and 2a + 1. In `next` stands at a place the
--- arrival to which a step leads, or "none"; in `cost` what the step costs. In `ends` stands 1 at an arrival where a walk may end,
--- and 0 elsewhere.
+-- The steps of a trip as rows, one for each arrival. A step that leads to "none" is none.
 -- Assumes nothing.
-use Rattle.std.specs.Prelude.{◌≡◌, ◌≢◌, List, ℕ, ◌+◌, ◌*◌, ◌/◌, ◌≤◌, ◌<◌, get_or}
+use Rattle.std.specs.Prelude.{◌≡◌, ◌≢◌, true, false, List, ℕ, ◌<◌}
 use Rattle.rules.specs.Plan.{arrivals, sec}
 use Rattle.rules.specs.Net.{no_distance}
+use Rattle.rules.specs.declared.net.Row.{Row}
+use Rattle.rules.specs.declared.net.Step as rows
+use Rattle.rules.specs.Rows.{row_at, StepOf}
 use Rattle.rules.specs.Trip.{Trip, Step, cost, Finish}
 
--- what stands at place k is an admissible step, with its cost
-pub record Entry (t : Trip) (next costs : List ℕ) (k : ℕ) : Type 0 where
-  pub step : Step t (k / 2) (get_or next k no_distance)
-  pub cost_of : get_or costs k 0 ≡ cost t (k / 2) (get_or next k no_distance)
+-- what stands in a row of a is an admissible step, with its cost
+pub record Entry (t : Trip) (a : ℕ) (s : rows.Step) : Type 0 where
+  pub step : Step t a s.next
+  pub cost_of : s.cost ≡ cost t a s.next
 
--- the step from a to b stands at one of the two places of a
-pub record Place (next : List ℕ) (a b : ℕ) : Type 0 where
-  pub at : ℕ
-  pub low : 2 * a ≤ at
-  pub high : at ≤ 2 * a + 1
-  pub leads : get_or next at no_distance ≡ b
+-- one of the two steps in the row of a leads to b
+pub record Place (table : List Row) (a b : ℕ) : Type 0 where
+  pub step : rows.Step
+  pub place : StepOf table a step
+  pub leads : step.next ≡ b
 
--- the table lists the admissible steps and nothing else, those of an arrival in the order of their sections
-pub record StepTable (t : Trip) (next costs : List ℕ) : Type 0 where
-  pub each : (k : ℕ) → k < 2 * arrivals t.plan → get_or next k no_distance ≢ no_distance → Entry t next costs k
-  pub every : (a b : ℕ) → Step t a b → Place next a b
-  pub ascending : (a : ℕ) → a < arrivals t.plan → get_or next (2 * a) no_distance ≢ no_distance
-      → get_or next (2 * a + 1) no_distance ≢ no_distance → sec (get_or next (2 * a) no_distance) < sec (get_or next (2 * a + 1) no_distance)
+-- the rows list the admissible steps and nothing else, those of an arrival in the order of their sections
+pub record StepTable (t : Trip) (table : List Row) : Type 0 where
+  pub each : (a : ℕ) (s : rows.Step) → a < arrivals t.plan → StepOf table a s → s.next ≢ no_distance → Entry t a s
+  pub every : (a b : ℕ) → Step t a b → Place table a b
+  pub ascending : (a : ℕ) → a < arrivals t.plan → (row_at table a).first.next ≢ no_distance
+      → (row_at table a).second.next ≢ no_distance → sec (row_at table a).first.next < sec (row_at table a).second.next
 
 -- whether a walk may end at a is what stands there
-pub data EndAt (t : Trip) (ends : List ℕ) (a : ℕ) : Type 0 where
-  may_end : get_or ends a 0 ≡ 1 → Finish t a → EndAt t ends a
-  goes_on : get_or ends a 0 ≡ 0 → (Finish t a → ⊥) → EndAt t ends a
+pub data EndAt (t : Trip) (table : List Row) (a : ℕ) : Type 0 where
+  may_end : (row_at table a).ends ≡ true → Finish t a → EndAt t table a
+  goes_on : (row_at table a).ends ≡ false → (Finish t a → ⊥) → EndAt t table a
 
--- the table marks the arrivals at which a walk may end
-pub record Ends (t : Trip) (ends : List ℕ) : Type 0 where
-  pub at : (a : ℕ) → a < arrivals t.plan → EndAt t ends a
+-- the rows mark the arrivals at which a walk may end
+pub record Ends (t : Trip) (table : List Row) : Type 0 where
+  pub at : (a : ℕ) → a < arrivals t.plan → EndAt t table a
+
+-- the steps in the one table are those in the other
+pub record SameSteps (before after : List Row) : Type 0 where
+  pub first : (a : ℕ) → (row_at after a).first ≡ (row_at before a).first
+  pub second : (a : ℕ) → (row_at after a).second ≡ (row_at before a).second

@@ -1,39 +1,21 @@
-// The tables of what is asked, all at once.
-ghost use Rattle.std.specs.Prelude.{◌*◌, ◌≤◌, length};
-ghost use Rattle.rules.specs.Plan.{of_sections, arrivals};
-ghost use Rattle.rules.proofs.Sound.{Sound};
-ghost use Rattle.train.specs.Asked.{query_asked};
-ghost use Rattle.turns.specs.Tables.{Tables};
-ghost use Rattle.steps.specs.Listing.{Listing};
+// All rows of a query.
+ghost use Rattle.std.specs.Prelude.{◌≤◌, length};
+ghost use Rattle.rules.specs.Plan.{arrivals};
+ghost use Rattle.plan.specs.Lent.{plan_lent};
+ghost use Rattle.train.specs.Asked.{query_lent};
+ghost use Rattle.steps.specs.Listing.{Ready, Listing};
 
-use crate::ends::fill_ends;
-use crate::fill_steps;
-use train::Asked;
+use crate::trip::Trip;
+use rules::net::Row;
 
-// The steps of what is asked, and where its walks may end.
-pub fn list_steps(
-    sections: &[u32],
-    turns: &[u32],
-    slots: &[u32; 2304],
-    table: &[u32; 1536],
-    asked: Asked,
-    next: &mut [u32],
-    cost: &mut [u32],
-    ends: &mut [u32],
-)
-    requires { Sound (query_asked asked sections.now turns.now) × Tables sections.now turns.now slots.now table.now × (2 * arrivals (of_sections sections.now) ≤ length next.old) × (2 * arrivals (of_sections sections.now) ≤ length cost.old) × (arrivals (of_sections sections.now) ≤ length ends.old) }
-    ensures { Listing (query_asked asked sections.now turns.now) next.new cost.new ends.new }
-{
-    fill_steps(
-        sections,
-        turns,
-        slots,
-        table,
-        asked.length,
-        asked.start,
-        asked.finish,
-        next,
-        cost,
-    );
-    fill_ends(sections, asked.finish, asked.enter, ends);
+impl Trip<'_> {
+    // The steps of the query, and where its walks may end, in the front of the lent rows.
+    pub fn list_steps(&self, rows: &mut [Row])
+        requires ready { Ready self.now }
+        requires long { arrivals (plan_lent self.now.query.plan) ≤ length rows.old }
+        ensures { Listing (query_lent self.now.query) rows.new }
+    {
+        self.fill_steps(rows);
+        self.fill_ends(rows);
+    }
 }

@@ -1,86 +1,47 @@
 // The step from an arrival over one section: where it leads, and what it costs.
-ghost use Rattle.std.specs.Prelude.{◌≡◌, ℕ, ◌<◌};
-ghost use Rattle.steps.specs.StepOver.{trip, may_enter, StepTables, Meets, arrival_over, StepOver};
+ghost use Rattle.std.specs.Prelude.{◌≡◌, ◌<◌};
+ghost use Rattle.steps.specs.StepOver.{rules_trip, may_enter, StepTables, Meets, arrival_over, StepOver};
 
-use plan::read::{END_A, LENGTH, has_section, section_number, wide};
-use plan::section::is_free;
-use turns::turn_table::is_forbidden;
+use crate::trip::Trip;
+use plan::read::{END_A, LENGTH};
+use rules::net::Step;
 
-// No arrival has this number.
-const NONE: u32 = 4294967295;
+impl Trip<'_> {
+    // A step may enter section s.
+    pub(crate) fn may_step(&self, s: u32) -> bool
+        ensures { result ≡ may_enter self.now s }
+    {
+        s != self.query.finish && s != self.query.start && self.query.plan.is_free(s)
+    }
 
-// A train: its length, the section that it leaves and the section that it enters.
-#[derive(Clone, Copy)]
-pub struct Train {
-    pub length: u32,
-    pub start: u32,
-    pub finish: u32,
-}
+    // The arrival over section s that is entered at its end p.
+    #[tactic(auto, unfolding(crate::specs::StepOver::arrival_over))]
+    fn arrival_over(&self, s: u32, p: u32) -> u32
+        requires { s < 1024 }
+        ensures { result ≡ arrival_over self.now.query.plan.sections.now s p }
+    {
+        2 * s + u32::from(self.query.plan.number(s, END_A) == p)
+    }
 
-// The arrival to which it leads and its cost, or "none" and 0.
-#[derive(Clone, Copy)]
-pub struct Step {
-    pub next: u32,
-    pub cost: u32,
-}
-
-// A step may enter section s.
-pub(crate) fn may_step(sections: &[u32], train: Train, s: u32) -> bool
-    ensures { result ≡ may_enter sections.now train s }
-{
-    if s == train.finish {
-        return false;
+    // The step from arrival a, which has come to p, over section s.
+    pub(crate) fn step_over(&self, served: &[bool; 768], a: u32, p: u32, s: u32) -> Option<Step>
+        requires known { StepTables self.now served.now }
+        requires meets { Meets self.now.query.plan.sections.now a p s }
+        ensures { StepOver (rules_trip self.now) a s result }
+    {
+        if !self.query.plan.has_section(s) || !self.may_step(s) {
+            return None;
+        }
+        let whole = self.query.plan.number(s, LENGTH);
+        let next = self.arrival_over(s, p);
+        if !self.yard().is_forbidden(p, a / 2, s) {
+            return Some(Step { next, cost: whole });
+        }
+        let pulls_out = served[p as usize];
+        if pulls_out {
+            let cost = self.query.length + whole;
+            return Some(Step { next, cost });
+        }
+        None
     }
-    if s == train.start {
-        return false;
-    }
-    is_free(sections, s)
-}
-
-// The arrival over section s that is entered at its end p.
-fn arrival_over(sections: &[u32], s: u32, p: u32) -> u32
-    requires { s < 1024 }
-    ensures { result ≡ arrival_over sections.now s p }
-{
-    if section_number(sections, s, END_A) == p {
-        return 2 * s + 1;
-    }
-    2 * s
-}
-
-// The step from arrival a, which has come to p, over section s.
-pub(crate) fn step_over(
-    sections: &[u32],
-    turns: &[u32],
-    table: &[u32; 1536],
-    served: &[u32; 768],
-    train: Train,
-    a: u32,
-    p: u32,
-    s: u32,
-) -> Step
-    requires { StepTables sections.now turns.now table.now served.now train × Meets sections.now a p s }
-    ensures { (v e g : ℕ) → StepOver (trip sections.now turns.now train v e g) a s result.next result.cost }
-{
-    let none = Step {
-        next: NONE,
-        cost: 0,
-    };
-    if !has_section(sections, s) {
-        return none;
-    }
-    if !may_step(sections, train, s) {
-        return none;
-    }
-    let whole = section_number(sections, s, LENGTH);
-    let next = arrival_over(sections, s, p);
-    if !is_forbidden(table, p, a / 2, s) {
-        return Step { next, cost: whole };
-    }
-    let length = train.length;
-    if served[wide(p)] == 1 {
-        let cost = length + whole;
-        return Step { next, cost };
-    }
-    none
 }

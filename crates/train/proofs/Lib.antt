@@ -1,3 +1,2 @@
--- Laws of the checks of a train, and of all the checks of a query.
-pub mod Order
+-- Laws of all the checks of a query.
 pub mod Refusing

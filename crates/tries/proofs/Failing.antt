@@ -3,7 +3,7 @@
 -- Assumes nothing.
 use mathlib.Core.Path.{◌≡◌, refl}
 use mathlib.Core.Logic.{◌⊎◌, inl, inr, ⊎_elim}
-use mathlib.Core.Bool.{Bool, false, not, ◌&&◌}
+use mathlib.Core.Bool.{Bool, false, not, ◌&&◌, ◌||◌}
 use mathlib.Core.List.{List, ◌∷◌}
 use Prim.Native.Nat.{ℕ, ◌+◌, ◌-◌, ◌≤◌, ◌<◌, max}
 use native.Mathlib.Omega.{arith}
@@ -13,36 +13,31 @@ use Rattle.rules.specs.Plan.{plan_of, len, far}
 use Rattle.rules.specs.PullOut.{any_section}
 use Rattle.rules.proofs.Tests.{tests, or_T, T_or_left, T_or_right, and_T, T_and}
 use Rattle.rules.proofs.Ways.{may_use, only, mark, Way, last, next, mark_put, mark_stays, mark_cases, free_whole}
-use Rattle.points.specs.Points.{Whole, member, Among, Empty, Put, Taken, Added}
+use Rattle.std.proofs.Common.{Option, Some}
+use Rattle.points.specs.declared.Points.{Points}
+use Rattle.points.specs.Points.{member, Among, Empty, Put, Taken, Added}
+use Rattle.turns.specs.declared.yard.Turn.{Turn}
 use Rattle.turns.specs.Tables.{Tables}
 use Rattle.lessons.specs.Limit.{AnyList, Hopeless}
-use Rattle.lessons.specs.Table.{nothing, Lessons, Recalled}
+use Rattle.lessons.specs.declared.lesson.Row.{Row}
+use Rattle.lessons.specs.Table.{Lessons, Recalled}
 use Rattle.lessons.proofs.Limits.{looser, in_vain}
-use Rattle.lessons.proofs.Remembering.{recalled_whole, recalled_silent, recalled_hopeless}
+use Rattle.lessons.proofs.Remembering.{recalled_hopeless}
 use Rattle.tries.specs.declared.marks.Try.{Try}
 use Rattle.tries.specs.Marks.{marked, Past}
 use Rattle.tries.specs.Tried.{Heads}
 use Rattle.tries.specs.Looked.{Goes, GoesOn}
-use Rattle.tries.specs.Fails.{Fails, Passed}
+use Rattle.tries.specs.Fails.{Fails}
 use Rattle.tries.proofs.Looking.{limit_over, on_fits}
 use Rattle.tries.proofs.Going.{slot, InVain, in_slots}
 
--- what was told beyond a section and its length fit where what was left before it fits
-pub sum_low : {n m left top : ℕ} → left < top → n < left → m < left - n → n + m < top
-sum_low a b d = omega arith
-
--- the reasons beyond q without q, and added to those before it
-pub passed_on : {ws bs cs us : List ℕ} {q : ℕ} → Taken bs q cs → Added ws cs us → Passed ws bs q us
-passed_on taken added = record { whole = added.whole; members = λ k. rw (← (taken.members k)) (added.members k) }
-
 module _ {ss ts : List ℕ} {c s : ℕ} {t : Try} {h p : ℕ} where
   -- the reasons of one section are added to those of the sections before
-  added : {e n : ℕ} {ws us : List ℕ} {why : ℕ → Bool} → Whole us → Among (member ws) (member us) → Among why (member us)
+  added : {e n : ℕ} {ws us : Points} {why : ℕ → Bool} → Among (member ws) (member us) → Among why (member us)
       → ((k : ℕ) → T (member us k) → T (member ws k) ⊎ T (why k)) → Among (member ws) (marked t)
       → Hopeless ss ts c s h p (Heads e) (marked t) t.left why n → Fails ss ts c s t h p (Heads e) ws us n
-  added whole more in-us either before u =
+  added more in-us either before u =
       record {
-        whole = whole;
         more = more;
         hopeless = record {
           met = λ k m. ⊎_elim (before k) (u.met k) (either k m);
@@ -52,18 +47,18 @@ module _ {ss ts : List ℕ} {c s : ℕ} {t : Try} {h p : ℕ} where
       }
 
   -- the look tells that it is shut, or leads to a point that has a mark
-  pub shut_fails : {e n : ℕ} {ws : List ℕ} → Whole ws → Among (member ws) (marked t) → Hopeless ss ts c s h p (Heads e) (marked t) t.left (λ k. false) n
+  pub shut_fails : {e n : ℕ} {ws : Points} → Among (member ws) (marked t) → Hopeless ss ts c s h p (Heads e) (marked t) t.left (λ k. false) n
       → Fails ss ts c s t h p (Heads e) ws ws n
-  shut_fails whole before u = added whole (λ k m. m) (λ k m. absurd m) (λ k m. inl m) before u
+  shut_fails before u = added (λ k m. m) (λ k m. absurd m) (λ k m. inl m) before u
 
-  pub met_fails : {e q n : ℕ} {ws us : List ℕ} → Put ws q us → Among (member ws) (marked t)
+  pub met_fails : {e q n : ℕ} {ws us : Points} → Put ws q us → Among (member ws) (marked t)
       → Hopeless ss ts c s h p (Heads e) (marked t) t.left (only q) n → Fails ss ts c s t h p (Heads e) ws us n
   met_fails {q = q} {ws = ws} put before u =
-      added put.whole (λ k m. rw (put.members k) (mark_stays q (member ws) k m)) (λ k m. rw (put.members k) (T_or_left (eqb k q) (member ws k) m))
+      added (λ k m. rw (put.members k) (mark_stays q (member ws) k m)) (λ k m. rw (put.members k) (T_or_left (eqb k q) (member ws k) m))
       (λ k m. ⊎_elim inr inl (or_T (eqb k q) (member ws k) (rw (put.members k) at m))) before u
 
   -- it leads to the point q, from which the try r goes on in vain
-  module _ {e q n m : ℕ} {r : Try} {bs us : List ℕ} (g : GoesOn ss ts c s (marked t) t.left h p e q n) (past : Past t q n r)
+  module _ {e q n m : ℕ} {r : Try} {bs us : Points} (g : GoesOn ss ts c s (marked t) t.left h p e q n) (past : Past t q n r)
       (fails : Fails ss ts c s r e q AnyList bs us m) where
     -- what is a reason beyond q and not the mark there
     abbrev elsewhere : ℕ → Bool
@@ -97,20 +92,24 @@ module _ {ss ts : List ℕ} {c s : ℕ} {t : Try} {h p : ℕ} where
           limit = limit_over (λ x marks qs a w. limit_beyond a w);
         }
 
-    pub beyond_fails : {ws vs : List ℕ} → Passed ws us q vs → Among (member ws) (marked t) → Fails ss ts c s t h p (Heads e) ws vs (n + m)
-    beyond_fails {ws} passed before =
-        added passed.whole (λ k o. rw (passed.members k) (T_or_left (member ws k) (elsewhere k) o)) (λ k o. rw (passed.members k) (T_or_right (member ws k) (elsewhere k) o))
-        (λ k o. or_T (member ws k) (elsewhere k) (rw (passed.members k) at o)) before hopeless_beyond
+    -- the reasons beyond, without q, are added to those before
+    pub beyond_fails : {ws cs vs : Points} → Taken us q cs → Added ws cs vs → Among (member ws) (marked t) → Fails ss ts c s t h p (Heads e) ws vs (n + m)
+    beyond_fails {ws} {cs} {vs} taken more before =
+        added (λ k o. rw (members k) (T_or_left (member ws k) (elsewhere k) o)) (λ k o. rw (members k) (T_or_right (member ws k) (elsewhere k) o))
+        (λ k o. or_T (member ws k) (elsewhere k) (rw (members k) at o)) before hopeless_beyond
+      where
+        members : (k : ℕ) → member vs k ≡ (member ws k || elsewhere k)
+        members k = rw (← (taken.members k)) (more.members k)
 
   -- there is no list for a try in vain
-  pub over_vain : {e n : ℕ} {ws us : List ℕ} → Fails ss ts c s t h p (Heads e) ws us n → (qs : List ℕ) → Goes ss ts c s t h p (e ∷ qs) → ⊥
+  pub over_vain : {e n : ℕ} {ws us : Points} → Fails ss ts c s t h p (Heads e) ws us n → (qs : List ℕ) → Goes ss ts c s t h p (e ∷ qs) → ⊥
   over_vain {e} f qs w = in_vain f.hopeless (e ∷ qs) refl w
 
-  pub point_vain : {n : ℕ} {ws us : List ℕ} → Fails ss ts c s t h p AnyList ws us n → (qs : List ℕ) → Goes ss ts c s t h p qs → ⊥
+  pub point_vain : {n : ℕ} {ws us : Points} → Fails ss ts c s t h p AnyList ws us n → (qs : List ℕ) → Goes ss ts c s t h p qs → ⊥
   point_vain f qs w = in_vain f.hopeless qs tt w
 
 -- the set before, by whatever name
-pub fails_from : {ss ts : List ℕ} {c s : ℕ} {t : Try} {h p m : ℕ} {Kind : List ℕ → Type 0} {ws us vs : List ℕ} → us ≡ ws
+pub fails_from : {ss ts : List ℕ} {c s : ℕ} {t : Try} {h p m : ℕ} {Kind : List ℕ → Type 0} {ws us vs : Points} → us ≡ ws
     → Fails ss ts c s t h p Kind us vs m → Fails ss ts c s t h p Kind ws vs m
 fails_from e f = rw e at f
 
@@ -118,21 +117,19 @@ fails_from e f = rw e at f
 abbrev pub Before : List ℕ → ℕ → ℕ → List ℕ → Type 0
 Before slots p j qs = (k : ℕ) × (k < j) × Heads (slot slots p k) qs
 
-module _ {ss ts : List ℕ} (slots : List ℕ) {c s : ℕ} {t : Try} {h p : ℕ} {ws : List ℕ} where
+module _ {ss ts : List ℕ} (slots : List ℕ) {c s : ℕ} {t : Try} {h p : ℕ} {ws : Points} where
   -- the sections of a point, one by one
   pub fails_first : Empty ws → 0 < t.left → Fails ss ts c s t h p (Before slots p 0) ws ws 0
   fails_first none l =
       record {
-        whole = none.whole;
         more = λ k m. m;
         hopeless = record { met = λ k m. absurd (rw (none.members k) at m); less = l; limit = record { limit = λ r marks qs a k w. absurd (omega (arith, k.1)) } };
       }
 
-  pub fails_more : {j e m n o : ℕ} {us vs : List ℕ} → Fails ss ts c s t h p (Before slots p j) ws us m → e ≡ slot slots p j
+  pub fails_more : {j e m n o : ℕ} {us vs : Points} → Fails ss ts c s t h p (Before slots p j) ws us m → e ≡ slot slots p j
       → Fails ss ts c s t h p (Heads e) us vs n → o ≡ max m n → Fails ss ts c s t h p (Before slots p (j + 1)) ws vs o
   fails_more {j} {e} {m} {n} {o} {us} {vs} f i g l =
       record {
-        whole = g.whole;
         more = λ k u. g.more k (f.more k u);
         hopeless = record {
           met = g.hopeless.met;
@@ -148,15 +145,14 @@ module _ {ss ts : List ℕ} (slots : List ℕ) {c s : ℕ} {t : Try} {h p : ℕ}
           let same : k ≡ j = omega arith in
           omega (arith, g.hopeless.limit.limit r marks qs a (rw (i, ← same) u) w)
 
-  pub fails_vain : {j m : ℕ} {us : List ℕ} → Fails ss ts c s t h p (Before slots p j) ws us m → InVain ss ts slots c s t h p j
+  pub fails_vain : {j m : ℕ} {us : Points} → Fails ss ts c s t h p (Before slots p j) ws us m → InVain ss ts slots c s t h p j
   fails_vain f k l qs o = in_vain f.hopeless qs (k, l, o.0) o.1
 
   -- all three
-  pub fails_all : {table us : List ℕ} {j m : ℕ} → Tables ss ts slots table → Fails ss ts c s t h p (Before slots p j) ws us m → 3 ≤ j
+  pub fails_all : {table : List (Option Turn)} {us : Points} {j m : ℕ} → Tables ss ts slots table → Fails ss ts c s t h p (Before slots p j) ws us m → 3 ≤ j
       → Fails ss ts c s t h p AnyList ws us m
   fails_all {table} {us} {j} {m} tables f l =
       record {
-        whole = f.whole;
         more = f.more;
         hopeless = record {
           met = f.hopeless.met;
@@ -169,11 +165,8 @@ module _ {ss ts : List ℕ} (slots : List ℕ) {c s : ℕ} {t : Try} {h p : ℕ}
       begins r marks qs w =
           ⊎_elim (λ u. (0, omega arith, u)) (⊎_elim (λ u. (1, omega arith, u)) (λ u. (2, omega arith, u))) (in_slots tables c s refl refl refl qs w)
 
--- what the lessons of an arrival tell; else the reasons are still none
-pub recalled_fails : {ss ts : List ℕ} {c s : ℕ} {t : Try} {h p r : ℕ} {b ws m us : List ℕ} → Lessons ss ts c s b → Empty ws
-    → Recalled h p (marked t) t.left b ws r m us → r < nothing → Fails ss ts c s t h p AnyList ws us r
+-- what the lessons of an arrival tell
+pub recalled_fails : {ss ts : List ℕ} {c s : ℕ} {t : Try} {h p most : ℕ} {r : Option ℕ} {b m : List Row} {ws us : Points} → Lessons ss ts c s b → Empty ws
+    → Recalled h p (marked t) t.left b ws r m us → r ≡ Some most → Fails ss ts c s t h p AnyList ws us most
 recalled_fails right none heard l =
-    record { whole = recalled_whole heard l; more = λ k u. absurd (rw (none.members k) at u); hopeless = recalled_hopeless right heard l }
-
-pub recalled_empty : {marks : ℕ → Bool} {left h p r : ℕ} {b ws m us : List ℕ} → Empty ws → Recalled h p marks left b ws r m us → nothing ≤ r → Empty us
-recalled_empty none heard n = rw (recalled_silent heard n) none
+    record { more = λ k u. absurd (rw (none.members k) at u); hopeless = recalled_hopeless right heard l }

@@ -1,16 +1,18 @@
 -- A try that goes on over a section: what it then looks for, and what is known of it.
 -- Assumes nothing.
 use mathlib.Core.Path.{◌≡◌, refl, sym, ◌∙◌}
-use mathlib.Core.Logic.{◌≢◌, ◌⊎◌, ⊎_elim, inl, inr}
+use mathlib.Core.Logic.{◌⊎◌, ⊎_elim, inl, inr}
 use mathlib.Core.Bool.{Bool}
 use mathlib.Core.List.{List, ◌∷◌}
 use Prim.Native.Nat.{ℕ, ◌+◌, ◌*◌, ◌≤◌, ◌<◌}
 use native.Mathlib.Omega.{arith}
 use lib.Dec.{T}
 use lib.ListN.{get_or}
+use Rattle.std.proofs.Common.{Option, Result, Ok}
 use Rattle.rules.specs.Plan.{plan_of, len}
 use Rattle.rules.specs.PullOut.{any_section}
 use Rattle.rules.proofs.Ways.{may_use, mark, Way, last, next, free_whole, way_onward, fewer_marks}
+use Rattle.turns.specs.declared.yard.Turn.{Turn}
 use Rattle.turns.specs.Tables.{Passes, Tables, Arrived}
 use Rattle.turns.specs.Enters.{Enters}
 use Rattle.turns.proofs.Entering.{at_far, passed_joined, passed_three, arrived_low, far_low}
@@ -61,7 +63,7 @@ abbrev pub InVain : List ℕ → List ℕ → List ℕ → ℕ → ℕ → Try �
 InVain ss ts slots c s t h p j = Vain (Goes ss ts c s t h p) (slot slots p) j
 
 -- a way from p begins with one of the sections in p's slots
-pub in_slots : {ss ts slots table : List ℕ} → Tables ss ts slots table → (c s : ℕ) {n h p x y z : ℕ} {marks : ℕ → Bool} → x ≡ get_or slots (3 * p + 0) 0
+pub in_slots : {ss ts slots : List ℕ} {table : List (Option Turn)} → Tables ss ts slots table → (c s : ℕ) {n h p x y z : ℕ} {marks : ℕ → Bool} → x ≡ get_or slots (3 * p + 0) 0
     → y ≡ get_or slots (3 * p + 1) 0 → z ≡ get_or slots (3 * p + 2) 0 → (qs : List ℕ) → Way (plan_of 0 ss ts) (may_use any_section c s) n h p marks qs
     → Heads x qs ⊎ (Heads y qs ⊎ Heads z qs)
 in_slots {ss} {ts} tables c s {n} {h} {p} {x} {y} {z} {marks} i j k qs w = go qs w
@@ -76,7 +78,7 @@ in_slots {ss} {ts} tables c s {n} {h} {p} {x} {y} {z} {marks} i j k qs w = go qs
     go qs (last {q} f e) = at q f
     go qs (next {q} f e l m v) = at q f
 
-module _ {ss ts slots table : List ℕ} (tables : Tables ss ts slots table) {h p : ℕ} (a : Arrived ss h p) where
+module _ {ss ts slots : List ℕ} {table : List (Option Turn)} (tables : Tables ss ts slots table) {h p : ℕ} (a : Arrived ss h p) where
   pub slots_ascend : (j k : ℕ) {x y : ℕ} → j < k → k < 3 → x ≡ get_or slots (3 * p + j) 0 → y ≡ get_or slots (3 * p + k) 0 → x ≤ y
   slots_ascend j k l m e f =
       let ok = tables.checked in
@@ -88,6 +90,6 @@ module _ {ss ts slots table : List ℕ} (tables : Tables ss ts slots table) {h p
     begins qs w =
         ⊎_elim (λ u. (0, omega arith, u)) (⊎_elim (λ u. (1, omega arith, u)) (λ u. (2, omega arith, u))) (in_slots tables c s refl refl refl qs w)
 
-    pub point_found : {j e d n : ℕ} {b o r : List ℕ} → InVain ss ts slots c s t h p j → o ≡ b → e ≡ slot slots p j
-        → Tried (Over (Goes ss ts c s t h p) e) o d n r → n ≢ 0 → Tried (Goes ss ts c s t h p) b d n r
+    pub point_found : {j e d n : ℕ} {b o a : List ℕ} {r : Result ℕ ℕ} → InVain ss ts slots c s t h p j → o ≡ b → e ≡ slot slots p j
+        → Tried (Over (Goes ss ts c s t h p) e) o d r a → r ≡ Ok n → Tried (Goes ss ts c s t h p) b d r a
     point_found v same = first_found (Goes ss ts c s t h p) (slot slots p) begins v same (λ j k l m. slots_ascend j k l m refl refl)

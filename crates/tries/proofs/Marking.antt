@@ -3,7 +3,6 @@
 use mathlib.Core.Path.{◌≡◌, refl, sym}
 use mathlib.Core.Logic.{◌≢◌, ◌⊎◌, inl, inr}
 use mathlib.Core.Bool.{Bool, true, false, not, ◌||◌, true≢false, false≢true}
-use mathlib.Core.List.{List}
 use Prim.Native.Nat.{ℕ, zero, suc, ◌+◌, ◌-◌, ◌≤◌, ◌<◌}
 use native.Mathlib.Nat.{eq-or-lt_of_le}
 use native.Mathlib.Omega.{arith}
@@ -13,6 +12,7 @@ use Rattle.rules.specs.Ranges.{count_of}
 use Rattle.rules.proofs.Tests.{gives_true}
 use Rattle.rules.proofs.Ranges.{count_le}
 use Rattle.rules.proofs.Ways.{only, mark}
+use Rattle.points.specs.declared.Points.{Points}
 use Rattle.points.specs.Points.{member, Empty, Put}
 use Rattle.tries.specs.declared.marks.Try.{Try}
 use Rattle.tries.specs.Marks.{marked, unmarked, Begun, Past}
@@ -62,10 +62,10 @@ count_less f q m l b =
     )
 
 -- the first try: of no marks one is put
-pub begun : {t : Try} {none : List ℕ} {n p : ℕ} → p < 768 → Empty none → Put none p t.marks → t.left ≡ n → Begun p n t
+pub begun : {t : Try} {none : Points} {n p : ℕ} → p < 768 → Empty none → Put none p t.marks → t.left ≡ n → Begun p n t
 unfolding unmarked
 begun {t} {none} {n} {p} l e m i =
-    record { covers = m.whole; left = i; marks = marks; fewer = count_less (λ k. not (member t.marks k)) p 768 l (rw (marks p, eq-eqb p p refl) refl) }
+    record { left = i; marks = marks; fewer = count_less (λ k. not (member t.marks k)) p 768 l (rw (marks p, eq-eqb p p refl) refl) }
   where
     or_false : (b : Bool) → (b || false) ≡ b
     or_false true = refl
@@ -85,6 +85,6 @@ one_fewer f g q m l u e =
     )
 
 -- the try that goes on from t past the point q, over a section of length n, with these marks
-pub past : (t : Try) (ms : List ℕ) (n : ℕ) {q : ℕ} → q < 768 → T (not (marked t q)) → Put t.marks q ms → Past t q n (record { marks = ms; left = t.left - n })
+pub past : (t : Try) (ms : Points) (n : ℕ) {q : ℕ} → q < 768 → T (not (marked t q)) → Put t.marks q ms → Past t q n (record { marks = ms; left = t.left - n })
 unfolding unmarked
-past t ms n {q} l u m = record { covers = m.whole; left = refl; marks = m.members; fewer = one_fewer (member t.marks) (member ms) q 768 l u m.members }
+past t ms n {q} l u m = record { left = refl; marks = m.members; fewer = one_fewer (member t.marks) (member ms) q 768 l u m.members }

@@ -1,16 +1,14 @@
 // A look at one section: what it is to a try.
 ghost use Rattle.std.specs.Prelude.{◌<◌};
-ghost use Rattle.points.specs.Points.{member};
-ghost use Rattle.turns.specs.Tables.{Passes, TurnTable, Arrived};
-ghost use Rattle.tries.specs.Looked.{Looked};
+ghost use Rattle.turns.specs.Tables.{Ready, Arrived};
+ghost use Rattle.tries.specs.Serves.{LookedFor};
 
-use plan::section::{far_end, free_from, is_free};
-use points::has;
-use turns::enter::may_enter;
+use crate::marks::Try;
+use turns::Serving;
 
 // Shut: no train gets further on it than this length. Met: its far point is this one, which has a mark, so none gets further than its
 // length. Last: it takes what is left. On: the train goes on to this far point, over this length.
-#[derive(Clone, Copy)]
+#[derive(Clone, Copy, Debug, PartialEq, Eq)]
 pub enum Look {
     Shut(u32),
     Met(u32, u32),
@@ -18,34 +16,26 @@ pub enum Look {
     On(u32, u32),
 }
 
-// The look at section e by a try with these marks and this length left.
-pub(crate) fn look_at(
-    sections: &[u32],
-    turns: &[u32],
-    table: &[u32; 1536],
-    marks: &[u32; 24],
-    left: u32,
-    c: u32,
-    s: u32,
-    h: u32,
-    p: u32,
-    e: u32,
-) -> Look
-    requires { Passes sections.now turns.now × TurnTable sections.now turns.now table.now × Arrived sections.now h p × (0 < left) }
-    ensures { Looked sections.now turns.now c s (member marks.now) left h p e result }
+// The look at section e by a try that has come over section h to p.
+pub(crate) fn look_at(serving: &Serving, t: &Try, h: u32, p: u32, e: u32) -> Look
+    requires ready { Ready serving.now.yard.now }
+    requires arrived { Arrived serving.now.yard.now.plan.sections.now h p }
+    requires some { 0 < t.now.left }
+    ensures { LookedFor serving.now t.now h p e result }
 {
-    if !may_enter(sections, turns, table, c, s, h, p, e) {
+    if !serving.may_enter(h, p, e) {
         return Look::Shut(0);
     }
-    let length = free_from(sections, e, p);
-    if left <= length {
+    let plan = &serving.yard.plan;
+    let length = plan.free_from(e, p);
+    if t.left <= length {
         return Look::Last;
     }
-    if !is_free(sections, e) {
+    if !plan.is_free(e) {
         return Look::Shut(length);
     }
-    let q = far_end(sections, e, p);
-    if has(marks, q) {
+    let q = plan.far_end(e, p);
+    if t.marks.has(q) {
         return Look::Met(q, length);
     }
     Look::On(q, length)

@@ -1,21 +1,23 @@
-// One try for a pull-out: the marks of the points passed, a set of points, and the length that is left.
+// One try for a pull-out: the marks of the points passed, and the length that is left.
 ghost use Rattle.std.specs.Prelude.{◌<◌};
 ghost use Rattle.tries.specs.Marks.{Begun};
 
-use points::{no_points, put};
+use points::Points;
 
 #[derive(Clone, Copy)]
 pub struct Try {
-    pub(crate) marks: [u32; 24],
+    pub(crate) marks: Points,
     pub left: u32,
 }
 
-// The first try, from point p, for the length n.
-pub(crate) fn first_try(p: u32, n: u32) -> Try
-    requires { p < 768 }
-    ensures { Begun p n result }
-{
-    let mut marks = no_points();
-    put(&mut marks, p);
-    Try { marks, left: n }
+impl Try {
+    // The first try, from point p, for the length n.
+    pub(crate) fn first(p: u32, n: u32) -> Self
+        requires { p < 768 }
+        ensures { Begun p n result }
+    {
+        let mut marks = Points::none();
+        marks.put(p);
+        Try { marks, left: n }
+    }
 }

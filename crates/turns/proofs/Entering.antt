@@ -4,13 +4,13 @@ use mathlib.Core.Path.{◌≡◌, sym, ◌∙◌}
 use mathlib.Core.Logic.{◌≢◌}
 use mathlib.Core.Bool.{Bool, true, false, cond, not, ◌&&◌}
 use mathlib.Core.List.{List}
-use Prim.Native.Nat.{ℕ, ◌<◌}
+use Prim.Native.Nat.{ℕ, ◌/◌, ◌%◌, ◌<◌}
 use native.Mathlib.Omega.{arith}
-use borrow.Author.Tests.{not-true, not-false}
 use lib.Dec.{T, eqb, eqb_refl, ltb, ltb→lt, lt→ltb}
-use Rattle.rules.specs.Plan.{Plan, plan_of, section_count, end_A, end_B, touches, far, forbidden}
+use Rattle.rules.specs.Plan.{Plan, plan_of, of_sections, section_count, field, end_A, end_B, to_point, touches, far, forbidden}
 use Rattle.rules.specs.PullOut.{any_section}
 use Rattle.rules.proofs.Tests.{tests, clash, and_T, T_and, T_or_left, T_or_right, gives_false, gives_same, says_true, says_false}
+use Rattle.rules.proofs.Sound.{at_both_ends}
 use Rattle.rules.proofs.Ways.{may_use}
 use Rattle.rules.proofs.PullSearch.{fits, fits_T, T_fits}
 use Rattle.plan.specs.Ends.{Joined, AtMostThree}
@@ -18,6 +18,8 @@ use Rattle.plan.proofs.Known.{plan_joined, plan_three}
 use Rattle.plan.proofs.Touching.{touch_below}
 use Rattle.turns.specs.Tables.{Passes, TurnTable, forbidden_by, Arrived}
 use Rattle.turns.specs.Enters.{Enters}
+use Rattle.std.proofs.Common.{Option}
+use Rattle.turns.specs.declared.yard.Turn.{Turn}
 use Rattle.turns.proofs.TurnsByPoint.{by_table}
 
 -- the far end of a section is an end of it
@@ -63,26 +65,11 @@ module _ (ss ts : List ℕ) (c s h p e : ℕ) where
   no_entry : (Enters ss ts c s h p e → ⊥) → false ≡ entry ss ts c s h p e
   no_entry n = gives_false (λ t. n (entry_T t))
 
-  pub outside : {r : Bool} → r ≡ ltb e (section_count (plan_of 0 ss ts)) → not r ≡ true → false ≡ entry ss ts c s h p e
-  outside {r} i n =
-      no_entry (λ f. clash (ltb e (section_count (plan_of 0 ss ts))) (lt→ltb e (section_count (plan_of 0 ss ts)) f.inside)
-      (says_false (ltb e (section_count (plan_of 0 ss ts))) (not-true r n) i))
-
-  pub elsewhere : {r : Bool} → r ≡ touches (plan_of 0 ss ts) e p → not r ≡ true → false ≡ entry ss ts c s h p e
-  elsewhere {r} i n =
-      no_entry (λ f. clash (touches (plan_of 0 ss ts) e p) f.touch (says_false (touches (plan_of 0 ss ts) e p) (not-true r n) i))
-
-  pub back_again : e ≡ h → false ≡ entry ss ts c s h p e
-  back_again i = no_entry (λ f. f.other i)
-
   -- what the usable sections are not
   not_both : Enters ss ts c s h p e → (e ≢ c) × (e ≢ s)
   not_both f = let u = simp tests at f.usable in (u.0.1, u.1)
 
-  pub is_first : e ≡ c → false ≡ entry ss ts c s h p e
-  is_first i = no_entry (λ f. (not_both f).0 i)
-
-  module _ {table : List ℕ} (ok : Passes ss ts) (made : TurnTable ss ts table) (a : Arrived ss h p) where
+  module _ {table : List (Option Turn)} (ok : Passes ss ts) (made : TurnTable ss ts table) (a : Arrived ss h p) where
     -- the table says of a section at p whether the turn into it is forbidden
     by_turn : e < section_count (plan_of 0 ss ts) → T (touches (plan_of 0 ss ts) e p) → e ≢ h → forbidden_by table p h e ≡ forbidden (plan_of 0 ss ts) h e
     by_turn l t n = by_table ok made (arrived_low ok a) a (record { inside = l; touch = t }) (λ i. n (sym i))
@@ -93,15 +80,15 @@ module _ (ss ts : List ℕ) (c s h p e : ℕ) where
         (says_true (forbidden (plan_of 0 ss ts) h e) q (i ∙ by_turn f.inside f.touch f.other)) f.turn)
 
     -- all tests but the last have passed
-    pub entry_last : {i t f : Bool} → i ≡ ltb e (section_count (plan_of 0 ss ts)) → not i ≡ false → t ≡ touches (plan_of 0 ss ts) e p → not t ≡ false → e ≢ h
+    pub entry_last : {i t f : Bool} → i ≡ ltb e (section_count (plan_of 0 ss ts)) → i ≡ true → t ≡ touches (plan_of 0 ss ts) e p → t ≡ true → e ≢ h
         → f ≡ forbidden_by table p h e → f ≡ false → e ≢ c → not (eqb e s) ≡ entry ss ts c s h p e
     entry_last {i} {t} {f} ei ni et nt nh ef nf nc = gives_same to from
       where
         l : e < section_count (plan_of 0 ss ts)
-        l = ltb→lt e (section_count (plan_of 0 ss ts)) (says_true (ltb e (section_count (plan_of 0 ss ts))) (not-false i ni) ei)
+        l = ltb→lt e (section_count (plan_of 0 ss ts)) (says_true (ltb e (section_count (plan_of 0 ss ts))) ni ei)
 
         u : T (touches (plan_of 0 ss ts) e p)
-        u = says_true (touches (plan_of 0 ss ts) e p) (not-false t nt) et
+        u = says_true (touches (plan_of 0 ss ts) e p) nt et
 
         to : T (not (eqb e s)) → T (entry ss ts c s h p e)
         to ns =
@@ -115,3 +102,18 @@ module _ (ss ts : List ℕ) (c s h p e : ℕ) where
 
         from : T (entry ss ts c s h p e) → T (not (eqb e s))
         from t = simp tests (not_both (entry_T t)).1
+
+-- the section of an arrival has the arrival's point for an end
+pub comes : (ss : List ℕ) (a : ℕ) → a / 2 < section_count (of_sections ss) → Arrived ss (a / 2) (to_point (of_sections ss) a)
+comes ss a l =
+    record {
+      inside = l;
+      touch = at_both_ends (λ e. T (touches (of_sections ss) (a / 2) (field (of_sections ss) (a / 2) e)))
+          (T_or_left (eqb x x) (eqb z x) (eqb_refl x)) (T_or_right (eqb x z) (eqb z z) (eqb_refl z)) (a % 2) (omega arith);
+    }
+  where
+    x : ℕ
+    x = end_A (of_sections ss) (a / 2)
+
+    z : ℕ
+    z = end_B (of_sections ss) (a / 2)

@@ -3,3 +3,7 @@
 
 pub mod enter;
 pub mod turn_table;
+pub mod yard;
+
+pub use enter::Serving;
+pub use yard::{Turn, Yard};

@@ -8,7 +8,7 @@ use native.Mathlib.Numerals.{add-one}
 use native.Mathlib.Omega.{arith}
 use lib.ListN.{length}
 use Rattle.rules.specs.YardFile.{layout, bytes_in, limit}
-use Rattle.yardfile.specs.Runs.{IsField, Follow, Ran, after}
+use Rattle.yardfile.specs.Runs.{IsField, Follow, after}
 
 follow_one : (s : List ℕ) (t n p : ℕ) → Follow s t n p → IsField s t (after t n p) → Follow s t (suc n) p
 follow_one s t zero p f h = (h, tt)
@@ -28,21 +28,16 @@ pub record Going (s : List ℕ) (t p n q : ℕ) : Type 0 where
   pub ends : q ≡ after t n p
   pub few : n ≤ limit t
 
-pub going_first : (s : List ℕ) (t p : ℕ) → Going s t p 0 p
-going_first s t p = record { follow = tt; ends = refl; few = omega arith }
-
 pub going_more : {s : List ℕ} {t p n q : ℕ} (b : ℕ) → Going s t p n q → n < limit t → IsField s t q → b ≡ bytes_in (layout t)
-    → Going s t p (n + 1) (q + 3 + b)
+    → Going s t p (n + 1) (q + (3 + b))
 going_more {s} {t} {p} {n} {q} b g l h e =
-    rw (add-one, e)
+    let z : q + (3 + bytes_in (layout t)) ≡ q + 3 + bytes_in (layout t) = omega arith in
+    rw (add-one, e, z)
     record {
       follow = follow_one s t n p g.follow (rw g.ends at h);
       ends = rw g.ends (sym (after_one t n p));
       few = omega arith;
     }
-
-pub ran : {s : List ℕ} {t p n q : ℕ} → Going s t p n q → (n < limit t → IsField s t q → ⊥) → Ran s t p (record { count = n; end = q })
-ran g f = record { follow = g.follow; ends = g.ends; few = g.few; stops = f }
 
 -- a field lies within its file
 pub field_within : {s : List ℕ} {t p : ℕ} (b : ℕ) → IsField s t p → b ≡ bytes_in (layout t) → p + 3 + b ≤ length s

@@ -1,6 +1,5 @@
 -- The laws that the proofs of this crate's functions share, and that what the reader answers is determined.
 pub mod BigEndian
-pub mod ColumnWidths
 pub mod Finding
 pub mod Following
 pub mod Writing

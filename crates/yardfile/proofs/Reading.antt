@@ -2,31 +2,21 @@
 -- Assumes nothing.
 use mathlib.Core.Path.{◌≡◌, refl, sym, ap, ◌∙◌}
 use mathlib.Core.Bool.{Bool, true, false}
-use mathlib.Core.Option.{some}
 use mathlib.Core.List.{List}
 use Prim.Native.Nat.{ℕ, ◌*◌, ◌≤◌}
-use native.Mathlib.Omega.{arith}
 use lib.Dec.{T}
+use Rattle.std.proofs.Common.{Ok, Err}
 use lib.ListN.{length, take, drop}
 use lib.Seq.{sets}
-use Rattle.rules.specs.YardFile.{number, layout, table, fault, Lent, lent_of, in_front, in_fronts, holds}
+use Rattle.rules.specs.YardFile.{number, layout, table, Lent, lent_of, in_front, in_fronts, holds}
 use Rattle.rules.proofs.Tests.{tests}
 use Rattle.yardfile.specs.declared.Parts.{Parts}
-use Rattle.yardfile.specs.declared.Surveyed.{Surveyed}
-use Rattle.yardfile.specs.declared.Surveyed.TheVariants.{Fault, Fine}
-use Rattle.yardfile.specs.declared.Read.TheVariants.{Yard, Refused}
+use Rattle.rules.specs.declared.refusal.Refusal.TheVariants.{Buffer}
 use Rattle.yardfile.specs.Runs.{rows_of}
 use Rattle.yardfile.specs.Answer.{Answers}
-use Rattle.yardfile.specs.Parts.{Whole, Surveys, parts_fit}
+use Rattle.yardfile.specs.Parts.{Whole, parts_fit}
 use Rattle.yardfile.proofs.Writing.{length_rows, stored}
 use Rattle.yardfile.proofs.Tables.{Has, tables}
-
--- what each answer of the survey says
-pub told_fault : (s : List ℕ) {r : Surveyed} {p : ℕ} → Surveys s r → r ≡ Fault p → fault s ≡ some p
-told_fault s g e = rw e at g
-
-pub told_whole : (s : List ℕ) {r : Surveyed} {h : Parts} → Surveys s r → r ≡ Fine h → Whole s h
-told_whole s g e = rw e at g
 
 -- a table's length
 long : (s : List ℕ) (t n p : ℕ) → Has s t 0 n (rows_of s t n p) → length (table t s) ≡ n * length (layout t)
@@ -48,11 +38,11 @@ lengths {s} {h} w =
 
 -- the test of the three lengths
 fits_holds : {s : List ℕ} {h : Parts} → Whole s h → (lent : Lent)
-    → parts_fit h (length lent.sections) (length lent.turns) (length lent.queries) ≡ holds lent s
+    → parts_fit h lent ≡ holds lent s
 fits_holds w lent = let l = lengths w in rw (l.sections, l.turns, l.queries) refl
 
 pub tested : {s : List ℕ} {h : Parts} {r b : Bool} → Whole s h → (lent : Lent)
-    → r ≡ parts_fit h (length lent.sections) (length lent.turns) (length lent.queries) → r ≡ b → holds lent s ≡ b
+    → r ≡ parts_fit h lent → r ≡ b → holds lent s ≡ b
 tested w lent e f = sym (e ∙ fits_holds w lent) ∙ f
 
 pub record Room (h : Parts) (lent : Lent) : Type 0 where
@@ -60,10 +50,10 @@ pub record Room (h : Parts) (lent : Lent) : Type 0 where
   pub turns : h.turns.count * 2 ≤ length lent.turns
   pub queries : h.queries.count * 5 ≤ length lent.queries
 
-pub room : {s : List ℕ} {h : Parts} → Whole s h → (lent : Lent) → T (holds lent s) → Room h lent
-room w lent t =
-    let f = fits_holds w lent in
-    let k = simp tests at (rw (← f) at t) in
+pub room : {s : List ℕ} {h : Parts} → Whole s h → (lent : Lent) → holds lent s ≡ true → Room h lent
+room {h} w lent e =
+    let t : T (parts_fit h lent) = rw (fits_holds w lent, e) tt in
+    let k = simp tests at t in
     record { sections = k.0.0; turns = k.0.1; queries = k.1 }
 
 -- what rows leave in a table is the file's table in front
@@ -85,18 +75,12 @@ in_places {s} {h} lent w r d e f =
     rw (x, y, z) refl
 
 -- the answers
-pub refused_20 : (s : List ℕ) {p : ℕ} (lent : Lent) → fault s ≡ some p → Answers s lent (Refused 20 p) lent
-refused_20 s lent e = record { numbers = rw e refl; numbered = λ n. omega (arith, n) }
-
-pub refused_14 : {s : List ℕ} {h : Parts} (lent : Lent) → Whole s h → holds lent s ≡ false → Answers s lent (Refused 14 0) lent
-refused_14 lent w e = record { numbers = rw (w.sound, e) refl; numbered = λ n. omega (arith, n) }
+pub refused_14 : {s : List ℕ} {h : Parts} (lent : Lent) → Whole s h → holds lent s ≡ false → Answers s lent (Err Buffer) lent
+refused_14 lent w e = record { numbers = rw (w.sound, e) refl }
 
 pub answered : {s : List ℕ} {h : Parts} {v : ℕ} (lent : Lent) {out : Lent} → Whole s h → holds lent s ≡ true
     → v ≡ number (take 2 (drop 3 s)) → out ≡ in_fronts s lent
-    → Answers s lent (Yard v h.sections.count h.turns.count h.queries.count) out
+    → Answers s lent (Ok (record { points = v; sections = h.sections.count; turns = h.turns.count; queries = h.queries.count })) out
 answered lent w e f g =
     let k = tables w in
-    record {
-      numbers = rw (w.sound, e, f, g, k.points, k.sections.counted, k.turns.counted, k.queries.counted) refl;
-      numbered = tt;
-    }
+    record { numbers = rw (w.sound, e, f, g, k.points, k.sections.counted, k.turns.counted, k.queries.counted) refl }

@@ -1,13 +1,8 @@
 -- Runs: fields of one tag that follow each other.
 -- Assumes nothing.
-use Rattle.std.specs.Prelude.{◌≡◌, Bool, true, false, List, [], ◌++◌, ℕ, zero, suc, ◌+◌, ◌≤◌, ◌<◌, length}
+use Rattle.std.specs.Prelude.{◌≡◌, List, [], ◌++◌, ℕ, zero, suc, ◌+◌, ◌≤◌, ◌<◌, length}
 use Rattle.rules.specs.YardFile.{tag, size, past, layout, bytes_in, limit, numbers}
 use Rattle.yardfile.specs.declared.run.Run.{Run}
-
--- a test's answer, and what it says
-pub record Says (r : Bool) (P : Type 0) : Type 0 where
-  pub holds : r ≡ true → P
-  pub fails : r ≡ false → P → ⊥
 
 -- a whole field of tag t, as long as its tag says, begins at byte p
 pub record IsField (s : List ℕ) (t p : ℕ) : Type 0 where

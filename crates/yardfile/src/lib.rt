@@ -1,4 +1,4 @@
-// The reader of yard files: numbers 20 and 14, and the tables that a file holds.
+// The reader of yard files: refusals 20 and 14, and the tables that a file holds.
 #![tactic(auto)]
 
 mod bytes;
@@ -7,38 +7,35 @@ pub mod reader;
 mod rows;
 pub mod run;
 
-ghost use Rattle.std.specs.Prelude.{◌≡◌, T};
+ghost use Rattle.std.specs.Prelude.{◌≡◌, IsTrue};
 ghost use Rattle.rules.specs.YardFile.{lent_of, in_fronts, holds};
-ghost use Rattle.yardfile.specs.Parts.{Parted, Whole, Surveys, parts_fit};
+ghost use Rattle.yardfile.specs.Parts.{Parted, Whole, Surveys, tables_of, parts_fit};
 ghost use Rattle.yardfile.specs.Answer.{Answers};
 
-use bytes::{two_bytes, wide};
+use bytes::number_of;
+use layout::Tag;
 use rows::put_rows;
+use rules::refusal::Refusal;
 use run::{Run, run_from};
 
-// What is answered: the points and how many sections, turns and queries were written, or a refusal's number and place.
-#[derive(Clone, Copy)]
-pub enum Read {
-    Yard(u32, u32, u32, u32),
-    Refused(u32, u32),
+// What a file holds: its points, and how many sections, turns and queries.
+#[derive(Clone, Copy, Debug, PartialEq, Eq)]
+pub struct Counts {
+    pub points: u32,
+    pub sections: u32,
+    pub turns: u32,
+    pub queries: u32,
 }
 
-// The three runs that follow the field of tag 1.
-#[derive(Clone, Copy)]
+// The three runs that follow the field of V.
+#[derive(Clone, Copy, Debug, PartialEq, Eq)]
 pub struct Parts {
     pub sections: Run,
     pub turns: Run,
     pub queries: Run,
 }
 
-// A file: the byte at which its first faulty field begins, or its runs.
-#[derive(Clone, Copy)]
-pub enum Surveyed {
-    Fault(u32),
-    Fine(Parts),
-}
-
-// Where V stands in the field of tag 1, and the byte after that field.
+// Where V stands in the field that has it, and the byte after that field.
 const POINTS_AT: usize = 3;
 
 const SECTIONS_AT: usize = 5;
@@ -47,9 +44,9 @@ const SECTIONS_AT: usize = 5;
 fn parts_of(file: &[u8]) -> Parts
     ensures { Parted file.now result }
 {
-    let sections = run_from(file, SECTIONS_AT, 2);
-    let turns = run_from(file, sections.end, 3);
-    let queries = run_from(file, turns.end, 4);
+    let sections = run_from(file, SECTIONS_AT, Tag::Sections);
+    let turns = run_from(file, sections.end, Tag::Turns);
+    let queries = run_from(file, turns.end, Tag::Queries);
     Parts {
         sections,
         turns,
@@ -57,81 +54,93 @@ fn parts_of(file: &[u8]) -> Parts
     }
 }
 
-// Looks for the first fault: it stands where the runs end, unless that is the end of the file.
-fn survey(file: &[u8]) -> Surveyed
+// The runs of a file without a fault. The first fault stands where the runs end, unless that is the end of the file.
+fn survey(file: &[u8]) -> Result<Parts, Refusal>
     ensures { Surveys file.now result }
 {
-    let first = run_from(file, 0, 1);
+    let first = run_from(file, 0, Tag::Points);
     if first.count == 0 {
-        return Surveyed::Fault(0);
+        return Err(Refusal::File(0));
     }
     let parts = parts_of(file);
     let end = parts.queries.end;
     if end < file.len() {
-        return Surveyed::Fault(end as u32);
+        return Err(Refusal::File(end as u32));
     }
-    Surveyed::Fine(parts)
+    Ok(parts)
 }
 
-// The three tables of a file fit lent tables of these lengths.
-fn fits(parts: Parts, sections: usize, turns: usize, queries: usize) -> bool
-    ensures { result ≡ parts_fit parts sections turns queries }
-{
-    if sections < wide(parts.sections.count) * 6 {
-        return false;
-    }
-    if turns < wide(parts.turns.count) * 2 {
-        return false;
-    }
-    wide(parts.queries.count) * 5 <= queries
+// The three tables that are lent.
+#[derive(Drop)]
+struct Lent<'a> {
+    sections: &'a mut [u32],
+    turns: &'a mut [u32],
+    queries: &'a mut [u32],
 }
 
-// The file's three tables go into the fronts of the lent ones.
-fn put_tables(
-    file: &[u8],
-    parts: Parts,
-    sections: &mut [u32],
-    turns: &mut [u32],
-    queries: &mut [u32],
-)
-    requires { Whole file.now parts × T (holds (lent_of sections.old turns.old queries.old) file.now) }
-    ensures { lent_of sections.new turns.new queries.new ≡ in_fronts file.now (lent_of sections.old turns.old queries.old) }
-{
-    put_rows(file, SECTIONS_AT, 2, parts.sections.count, sections);
-    put_rows(file, parts.sections.end, 3, parts.turns.count, turns);
-    put_rows(file, parts.turns.end, 4, parts.queries.count, queries);
-}
-
-// Number 14, where the file has no fault, and then the tables.
-fn read_whole(
-    file: &[u8],
-    parts: Parts,
-    sections: &mut [u32],
-    turns: &mut [u32],
-    queries: &mut [u32],
-) -> Read
-    requires { Whole file.now parts }
-    ensures { Answers file.now (lent_of sections.old turns.old queries.old) result (lent_of sections.new turns.new queries.new) }
-{
-    if !fits(parts, sections.len(), turns.len(), queries.len()) {
-        return Read::Refused(14, 0);
+impl Lent<'_> {
+    // Each of them holds the file's.
+    fn fits(&self, parts: Parts) -> bool
+        ensures { result ≡ parts_fit parts (tables_of self.now) }
+    {
+        parts.sections.count as usize * 6 <= self.sections.len()
+            && parts.turns.count as usize * 2 <= self.turns.len()
+            && parts.queries.count as usize * 5 <= self.queries.len()
     }
-    put_tables(file, parts, sections, turns, queries);
-    let points = two_bytes(file, POINTS_AT);
-    Read::Yard(
-        points,
-        parts.sections.count,
-        parts.turns.count,
-        parts.queries.count,
-    )
+
+    // The file's three tables go into the fronts of the lent ones.
+    fn put(self, file: &[u8], parts: Parts)
+        requires whole { Whole file.now parts }
+        requires room { IsTrue (holds (tables_of self) file.now) }
+        ensures { lent_of self.exit.0.now self.exit.1.0.now self.exit.1.1.0.now ≡ in_fronts file.now (tables_of self.entry) }
+    {
+        put_rows(
+            file,
+            SECTIONS_AT,
+            Tag::Sections,
+            parts.sections.count,
+            self.sections,
+        );
+        put_rows(
+            file,
+            parts.sections.end,
+            Tag::Turns,
+            parts.turns.count,
+            self.turns,
+        );
+        put_rows(
+            file,
+            parts.turns.end,
+            Tag::Queries,
+            parts.queries.count,
+            self.queries,
+        );
+    }
 }
 
 // Reads a yard file into the fronts of three lent tables: any bytes, any lengths.
-pub fn read_yard(file: &[u8], sections: &mut [u32], turns: &mut [u32], queries: &mut [u32]) -> Read
+pub fn read_yard(
+    file: &[u8],
+    sections: &mut [u32],
+    turns: &mut [u32],
+    queries: &mut [u32],
+) -> Result<Counts, Refusal>
     ensures { Answers file.now (lent_of sections.old turns.old queries.old) result (lent_of sections.new turns.new queries.new) }
 {
-    match survey(file) {
-        Surveyed::Fault(place) => Read::Refused(20, place),
-        Surveyed::Fine(parts) => read_whole(file, parts, sections, turns, queries),
+    let parts = survey(file)?;
+    let lent = Lent {
+        sections,
+        turns,
+        queries,
+    };
+    if !lent.fits(parts) {
+        return Err(Refusal::Buffer);
     }
+    lent.put(file, parts);
+    Ok(Counts {
+        points: number_of(&file[POINTS_AT..SECTIONS_AT]),
+        sections: parts.sections.count,
+        turns: parts.turns.count,
+        queries: parts.queries.count,
+    })
 }

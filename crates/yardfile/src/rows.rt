@@ -1,41 +1,42 @@
 // The numbers of fields, written into a table.
-ghost use Rattle.std.specs.Prelude.{◌≡◌, ◌+◌, ◌*◌, ◌≤◌, length};
+ghost use Rattle.std.specs.Prelude.{◌≡◌, ◌*◌, ◌≤◌, length};
 ghost use Rattle.std.proofs.lemmas.List.Edits.{sets};
 ghost use Rattle.rules.specs.YardFile.{layout, bytes_in, numbers};
 ghost use Rattle.yardfile.specs.Runs.{Follow, rows_of};
+ghost use Rattle.yardfile.specs.Tags.{number_of_tag};
 
-use crate::bytes::number_at;
-use crate::layout::{column, columns, field_bytes};
+use crate::bytes::number_of;
+use crate::layout::Tag;
 
-// The numbers of a field of a tag, which stand in the file from byte k on, go into the table from n on.
-fn put_row(file: &[u8], k: usize, tag: u8, table: &mut [u32], n: usize) -> usize
-    requires { (k + bytes_in (layout tag) ≤ length file.now) × (n + length (layout tag) ≤ length table.old) }
-    ensures { (result ≡ n + length (layout tag)) × (table.new ≡ sets table.old n (numbers (layout tag) file.now k)) }
+// The numbers of a field of a tag, with which some bytes begin, go into a row.
+// By index: over `zip` of `iter_mut` no invariant can name the row, and the goal `returns` stays open.
+fn put_row(bytes: &[u8], tag: Tag, row: &mut [u32])
+    requires held { bytes_in (layout (number_of_tag tag)) ≤ length bytes.now }
+    requires room { length row.old ≡ length (layout (number_of_tag tag)) }
+    ensures { row.new ≡ numbers (layout (number_of_tag tag)) bytes.now 0 }
 {
-    let m = columns(tag);
-    let mut i = 0;
-    let mut at = k;
-    while i < m {
-        let width = column(tag, i);
-        table[n + i] = number_at(file, at, width);
-        at += width;
-        i += 1;
+    let mut at = 0;
+    for (i, width) in tag.widths().iter().enumerate() {
+        let next = at + *width;
+        row[i] = number_of(&bytes[at..next]);
+        at = next;
     }
-    n + m
 }
 
 // The numbers of a run go into the front of the table.
-pub(crate) fn put_rows(file: &[u8], from: usize, tag: u8, count: u32, table: &mut [u32])
-    requires { Follow file.now tag count from × (count * length (layout tag) ≤ length table.old) }
-    ensures { table.new ≡ sets table.old 0 (rows_of file.now tag count from) }
+// By index: over `chunks_exact_mut` no invariant can name the table, and the goal `returns` stays open.
+pub(crate) fn put_rows(file: &[u8], from: usize, tag: Tag, count: u32, table: &mut [u32])
+    requires follow { Follow file.now (number_of_tag tag) count from }
+    requires room { count * length (layout (number_of_tag tag)) ≤ length table.old }
+    ensures { table.new ≡ sets table.old 0 (rows_of file.now (number_of_tag tag) count from) }
 {
-    let step = field_bytes(tag);
+    let step = 3 + tag.field_bytes();
+    let columns = tag.widths().len();
     let mut at = from;
     let mut n = 0;
-    let mut left = count;
-    while 0 < left {
-        n = put_row(file, at + 3, tag, table, n);
-        at = at + 3 + step;
-        left -= 1;
+    for _ in 0..count {
+        put_row(&file[at + 3..], tag, &mut table[n..n + columns]);
+        at += step;
+        n += columns;
     }
 }

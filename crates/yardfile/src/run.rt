@@ -1,45 +1,39 @@
 // Runs: fields of one tag that follow each other. Tags never fall, so a yard file is a run of each tag in turn.
-ghost use Rattle.yardfile.specs.Runs.{IsField, Says, Ran};
+ghost use Rattle.std.specs.Prelude.{◌↔◌, IsTrue};
+ghost use Rattle.yardfile.specs.Runs.{IsField, Ran};
+ghost use Rattle.yardfile.specs.Tags.{number_of_tag};
 
-use crate::layout::{field_bytes, most};
-use crate::reader::{Field, field_from};
+use crate::layout::Tag;
+use crate::reader::field_from;
 
 // How many fields a run has, and the byte after it.
-#[derive(Clone, Copy)]
+#[derive(Clone, Copy, Debug, PartialEq, Eq)]
 pub struct Run {
     pub count: u32,
     pub end: usize,
 }
 
 // A whole field of this tag, as long as its tag says, begins at a byte of the file.
-fn is_field(file: &[u8], at: usize, tag: u8) -> bool
-    ensures { Says result (IsField file.now tag at) }
+fn is_field(file: &[u8], at: usize, tag: Tag) -> bool
+    ensures { IsTrue result ↔ IsField file.now (number_of_tag tag) at }
 {
-    match field_from(file, at) {
-        Field::Cut => false,
-        Field::Whole(found, size) => {
-            if found == tag {
-                return size == field_bytes(tag);
-            }
-            false
-        }
-    }
+    field_from(file, at).is_some_and(|found| {
+        found.tag == tag.number() && found.size == tag.field_bytes()
+    })
 }
 
 // The fields of one tag from a byte on, as many as there are and may be.
-pub(crate) fn run_from(file: &[u8], at: usize, tag: u8) -> Run
-    ensures { Ran file.now tag at result }
+pub(crate) fn run_from(file: &[u8], at: usize, tag: Tag) -> Run
+    ensures { Ran file.now (number_of_tag tag) at result }
 {
-    let limit = most(tag);
-    let step = field_bytes(tag);
-    let mut count = 0;
+    let most = tag.most();
+    let step = 3 + tag.field_bytes();
     let mut end = at;
-    while count < limit {
+    for count in 0..most {
         if !is_field(file, end, tag) {
             return Run { count, end };
         }
-        end = end + 3 + step;
-        count += 1;
+        end += step;
     }
-    Run { count, end }
+    Run { count: most, end }
 }

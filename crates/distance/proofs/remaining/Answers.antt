@@ -1,9 +1,12 @@
--- `remaining` meets its contract: the front of the labels is lent.
+-- `remaining` meets its contract: "none" everywhere is above what is offered, and the last sweep settles.
 -- Assumes nothing.
-use Rattle.distance.proofs.Fronts.{front_answered}
+use native.Mathlib.Omega.{arith}
+use Rattle.distance.proofs.Lowering.{blank_above}
+use Rattle.distance.proofs.Exactness.{settled_exact}
 use Rattle.distance.proofs.remaining.Goals as goal
 
+pub settle-requires-clause-above : goal.settle-requires-clause-above
+settle-requires-clause-above c = c.run_down.ensures.keeps (blank_above c.requires.blank)
+
 pub returns : goal.returns
-returns c =
-    let call = c in
-    front_answered call.requires.0 call.requires.1 call.remaining_of_all.auto.labels call.remaining_of_all.ensures
+returns c = settled_exact c.requires.table (omega arith) c.settle.ensures

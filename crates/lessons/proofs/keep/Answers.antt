@@ -1,12 +1,13 @@
--- `keep` meets its contract: the row's first number, the head and the reasons are all that is written.
+-- `keep` meets its contract: the lesson, and where the next one goes, are all that is written.
 -- Assumes nothing.
+use mathlib.Core.Path.{refl}
+use Prim.Native.Nat.{ℕ}
 use native.Mathlib.Omega.{arith}
-use lib.ListN.{length-set}
-use Rattle.lessons.proofs.Reading.{writing}
+use Rattle.std.proofs.lemmas.List.{length-take}
+use Rattle.lessons.proofs.Remembering.{writing, first_words}
 use Rattle.lessons.proofs.keep.Goals as goal
 
 pub returns : goal.returns
 returns c =
-    let start = c in
-    writing start.args.memo.now _ c.wide-row.ensures.0 (omega (arith, c.wide.ensures.0)) (omega arith)
-    c.width-words.ensures (simp length-set at c.save.auto.table) c.save.ensures
+    writing _ _ (omega arith) (omega arith) (omega arith) refl refl c.width-words.ensures
+    (first_words c.args.why.now.words c.save.new.place _ (omega arith) c.save.auto.place c.save.ensures.words (omega (arith, length-take {A = ℕ})))

@@ -1,27 +1,15 @@
--- `find_route` meets its contract: the tables are made once, the query is solved and the answer written.
+-- `find_route` meets its contract: no walk leads on from the start, or one is handed out.
 -- Assumes nothing.
-use native.Mathlib.Omega.{arith}
-use lib.ListN.{length}
-use Rattle.rules.specs.Plan.{plan_of}
-use Rattle.rules.proofs.Sound.{sound}
-use Rattle.plan.proofs.Known.{plan_turned}
-use Rattle.distance.proofs.Fronts.{blank_new}
-use Rattle.train.specs.Asked.{query_asked}
-use Rattle.train.proofs.Refusing.{plan_accepted}
-use borrow.Author.Rules.{rules}
+use Rattle.std.proofs.Common.{arith}
+use Rattle.train.specs.Asked.{query_lent}
+use Rattle.search.proofs.Answering.{one_each, no_way}
 use Rattle.search.proofs.find_route.Goals as goal
 
-pub turn_table-table-requires : goal.turn_table-table-requires
-turn_table-table-requires c =
-    plan_turned (plan_of c.args.asked.points c.args.sections.now c.args.turns.now) (plan_accepted (query_asked c.args.asked c.args.sections.now c.args.turns.now) (length c.args.labels.now) c.requires.0)
+pub copy_into-requires : goal.copy_into-requires
+copy_into-requires c =
+    omega (arith, one_each (query_lent c.args.trip.now.query) c.args.labels.now c.requires.accepted c.solve.ensures.known)
 
-pub solve-steps-requires : goal.solve-steps-requires
-solve-steps-requires c =
-    let query = query_asked c.args.asked c.args.sections.now c.args.turns.now in
-    let checked = plan_accepted query (length c.args.labels.now) c.requires.0 in (
-      sound query (length c.args.labels.now) c.requires.0,
-      record { checked = record { points = c.args.asked.points; passes = checked }; slotted = c.requires.1; turned = c.turn_table-table.ensures },
-      search rules,
-      search rules,
-      blank_new 2048 2048 (omega arith),
-    )
+pub returns-in_default : goal.returns-in_default
+returns-in_default c =
+    rw c.copy_into.ensures
+    (no_way (query_lent c.args.trip.now.query) c.args.labels.now c.requires.accepted c.solve.ensures.known c.args.route.now (rw c.in_default.is at c.solve.ensures.chosen))

@@ -1,8 +1,7 @@
 -- `sweep::relax` meets its contract: the label is lowered to the best that is offered.
 -- Assumes nothing.
-use borrow.Author.Rules.{rules}
 use Rattle.distance.proofs.Lowering.{relaxed}
 use Rattle.distance.proofs.sweep.relax.Goals as goal
 
 pub returns : goal.returns
-returns c = relaxed (search rules) c.best-v.ensures c.lower.ensures
+returns c = relaxed c.requires.in_bounds c.best-v.ensures c.lower.ensures

@@ -4,8 +4,8 @@
 use Rattle.distance.specs.Labels.{label_sum, Kept}
 use Rattle.distance.proofs.sweep.settle.Given as goal
 
-abbrev pub invariant-loop-room : goal.invariant-loop-room
-invariant-loop-room l = Kept l.next l.cost l.ends l.room l.initial.labels l.labels
+abbrev pub invariant-loop : goal.invariant-loop
+invariant-loop l = Kept l.net l.initial.labels l.labels
 
-abbrev pub decreases-loop-room : goal.decreases-loop-room
-decreases-loop-room l = label_sum l.labels
+abbrev pub decreases-loop : goal.decreases-loop
+decreases-loop l = label_sum l.labels

@@ -1,39 +1,41 @@
--- `write_walk` meets its contract: the walk fits into the route buffer, or refusal 14.
+-- `write::write_walk` meets its contract: the walk fits into the route buffer, or refusal 14.
 -- Assumes nothing.
-use mathlib.Core.Path.{refl}
-use native.Mathlib.Omega.{arith}
-use lib.ListN.{length}
+use Rattle.std.proofs.Common.{◌≡◌, ◌+◌, refl, arith, get_or}
+use Rattle.rules.specs.Query.{start_arrival, first_distance}
 use Rattle.steps.proofs.Reversing.{walk_linked}
-use Rattle.train.specs.Asked.{query_asked}
-use Rattle.train.proofs.Refusing.{plan_accepted}
-use Rattle.search.proofs.Answering.{labels_there, few, walk_held, walk_walked, total_fits, no_room, handed_out}
+use Rattle.train.specs.Asked.{query_lent}
+use Rattle.search.proofs.Answering.{one_each, few, total_fits, no_room, handed_out}
 use Rattle.search.proofs.write.write_walk.Goals as goal
 
-pub returns-then-route-steps : goal.returns-then-route-steps
-returns-then-route-steps c =
-    no_room (query_asked c.args.asked c.args.sections.now c.args.turns.now) c.args.labels.now c.requires.0 c.requires.2 c.requires.3 c.args.route.now c.if-route-steps.true
+pub returns-then-route-walk : goal.returns-then-route-walk
+returns-then-route-walk c =
+    no_room (query_lent c.args.trip.now.query) c.args.labels.now c.requires.accepted c.requires.known c.requires.first c.args.route.now (omega (arith, c.if-route-walk.true))
 
 pub overflow_add-total : goal.overflow_add-total
 overflow_add-total c =
-    rw (c.first_distance.ensures, c.start_arrival-from.ensures) (omega (arith, total_fits (query_asked c.args.asked c.args.sections.now c.args.turns.now) c.args.labels.now c.requires.0 c.requires.2 c.requires.3))
+    rw (c.first_distance.ensures, c.start_arrival-from.ensures) (omega (arith, total_fits (query_lent c.args.trip.now.query) c.args.labels.now c.requires.accepted c.requires.known c.requires.first))
 
-pub count_reversals-reversals-requires : goal.count_reversals-reversals-requires
-count_reversals-reversals-requires c =
-    (record { points = c.args.asked.points; passes = plan_accepted (query_asked c.args.asked c.args.sections.now c.args.turns.now) (length c.args.labels.now) c.requires.0 }, c.requires.1, walk_held (query_asked c.args.asked c.args.sections.now c.args.turns.now) c.args.labels.now c.requires.0 c.requires.2 c.requires.3, omega (arith, few (query_asked c.args.asked c.args.sections.now c.args.turns.now) c.args.labels.now c.requires.0 c.requires.2 c.requires.3), rw c.start_arrival-from.ensures (walk_linked (walk_walked (query_asked c.args.asked c.args.sections.now c.args.turns.now) c.args.labels.now c.requires.0 c.requires.2 c.requires.3)))
+pub count_reversals-reversals-requires-clause-few : goal.count_reversals-reversals-requires-clause-few
+count_reversals-reversals-requires-clause-few c =
+    omega (arith, few (query_lent c.args.trip.now.query) c.args.labels.now c.requires.accepted c.requires.known c.requires.first)
 
-pub copy_front-requires-2 : goal.copy_front-requires-2
-copy_front-requires-2 c =
-    (omega (arith, labels_there (query_asked c.args.asked c.args.sections.now c.args.turns.now) c.args.labels.now c.requires.0 c.requires.2), omega arith)
+pub count_reversals-reversals-requires-clause-linked : goal.count_reversals-reversals-requires-clause-linked
+count_reversals-reversals-requires-clause-linked c = rw c.start_arrival-from.ensures (walk_linked c.requires.first.shortest.walk)
 
-pub overflow_cast-result : goal.overflow_cast-result
-overflow_cast-result c =
-    omega (arith, few (query_asked c.args.asked c.args.sections.now c.args.turns.now) c.args.labels.now c.requires.0 c.requires.2 c.requires.3)
+pub overflow_cast-steps : goal.overflow_cast-steps
+overflow_cast-steps c =
+    omega (arith, few (query_lent c.args.trip.now.query) c.args.labels.now c.requires.accepted c.requires.known c.requires.first)
+
+pub copy_into-requires-2 : goal.copy_into-requires-2
+copy_into-requires-2 c =
+    omega (arith, one_each (query_lent c.args.trip.now.query) c.args.labels.now c.requires.accepted c.requires.known)
 
 pub returns : goal.returns
 returns c =
     let from = c.start_arrival-from.ensures in
-    let query = query_asked c.args.asked c.args.sections.now c.args.turns.now in
-    let counted = c.count_reversals-reversals.ensures c.args.asked.points c.args.asked.length c.args.asked.start c.args.asked.leave c.args.asked.finish c.args.asked.enter in
-    rw (c.copy_front-2.ensures, c.copy_front.ensures)
-    (handed_out query c.args.labels.now c.requires.0 c.requires.2 c.requires.3 c.args.route.now (omega (arith, c.if-route-steps.false))
-    (rw (c.first_distance.ensures, from) refl) (rw from at counted))
+    let query = query_lent c.args.trip.now.query in
+    let total : c.first_distance.result + get_or c.args.known.now c.start_arrival-from.result 0 ≡ first_distance query + get_or c.args.known.now (start_arrival query) 0 =
+    rw (c.first_distance.ensures, from) refl in
+    rw (c.copy_into-2.ensures, c.copy_into.ensures)
+    (handed_out query c.args.labels.now c.requires.accepted c.requires.known c.requires.first c.args.route.now (omega (arith, c.if-route-walk.false)) (omega (arith, total))
+    (rw from at c.count_reversals-reversals.ensures))

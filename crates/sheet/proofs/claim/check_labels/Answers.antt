@@ -1,7 +1,8 @@
 -- `claim::check_labels` meets its contract: a label breaks a rule, or the start label is compared.
 -- Assumes nothing.
-use Rattle.sheet.proofs.Checking.{label_broken}
+use Rattle.std.proofs.Common.{refl}
+use Rattle.sheet.specs.Checking.{bad_label}
 use Rattle.sheet.proofs.claim.check_labels.Goals as goal
 
-pub returns-then-bad-labels : goal.returns-then-bad-labels
-returns-then-bad-labels c = λ t L e. label_broken (c.first_broken-bad.ensures t L e) c.if-bad-labels.true
+pub returns-in-Some-clause-answer : goal.returns-in-Some-clause-answer
+returns-in-Some-clause-answer c = λ t L m. let f = c.in-Some.ensures.first t L m in bad_label c.in-Some.bad refl f.0 f.1 f.2

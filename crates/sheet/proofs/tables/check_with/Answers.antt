@@ -1,28 +1,37 @@
--- `tables::check_with` meets its contract: the tables are those of the query, so what is found over them is found of the query.
+-- `tables::check_with` meets its contract: the table is that of the query, so what is found over it is found of the query.
 -- Assumes nothing.
-use native.Mathlib.Omega.{arith}
-use lib.ListN.{length}
+use Rattle.std.proofs.Common.{length, arith}
 use Rattle.rules.proofs.Sound.{sound, label_length}
 use Rattle.rules.proofs.Trips.{start_inside}
-use Rattle.train.specs.Asked.{query_asked}
-use Rattle.sheet.proofs.Checking.{listing_places, listing_prepared}
+use Rattle.train.specs.Asked.{query_lent}
+use Rattle.sheet.proofs.Checking.{listing_prepared}
 use Rattle.sheet.proofs.tables.check_with.Goals as goal
 
-pub list_steps-requires : goal.list_steps-requires
-list_steps-requires c =
-    let query = query_asked c.args.asked c.args.sections.now c.args.turns.now in
-    (sound query (length c.args.labels.now) c.requires.0, c.requires.1, c.requires.2, c.requires.3, c.requires.4)
+pub list_steps-requires-clause-ready : goal.list_steps-requires-clause-ready
+list_steps-requires-clause-ready c =
+    let ready = c.requires.ready in
+    record { sound = sound (query_lent c.args.trip.now.query) (length c.args.sheet.now.labels.now) ready.accepted; tables = ready.tables }
 
-pub check_claim-requires : goal.check_claim-requires
-check_claim-requires c =
-    let query = query_asked c.args.asked c.args.sections.now c.args.turns.now in
-    let known = sound query (length c.args.labels.now) c.requires.0 in
-    let long = label_length query (length c.args.labels.now) c.requires.0 in
-    (listing_places known c.list_steps.ensures long, rw c.start_arrival-from.ensures (omega (arith, start_inside known, long)))
+pub list_steps-requires-clause-long : goal.list_steps-requires-clause-long
+list_steps-requires-clause-long c =
+    omega (arith, label_length (query_lent c.args.trip.now.query) (length c.args.sheet.now.labels.now) c.requires.ready.accepted)
+
+pub check_claim-requires-clause-few : goal.check_claim-requires-clause-few
+check_claim-requires-clause-few c =
+    let query = query_lent c.args.trip.now.query in
+    let known = sound query (length c.args.sheet.now.labels.now) c.requires.ready.accepted in
+    omega (arith, label_length query (length c.args.sheet.now.labels.now) c.requires.ready.accepted, known.plan.few_sections)
+
+pub check_claim-requires-clause-from_in_bounds : goal.check_claim-requires-clause-from_in_bounds
+check_claim-requires-clause-from_in_bounds c =
+    let query = query_lent c.args.trip.now.query in
+    let known = sound query (length c.args.sheet.now.labels.now) c.requires.ready.accepted in
+    let long = label_length query (length c.args.sheet.now.labels.now) c.requires.ready.accepted in
+    rw c.start_arrival.ensures (omega (arith, start_inside known, long))
 
 pub returns : goal.returns
 returns c =
-    let query = query_asked c.args.asked c.args.sections.now c.args.turns.now in
-    let known = sound query (length c.args.labels.now) c.requires.0 in
-    let long = label_length query (length c.args.labels.now) c.requires.0 in
-    c.check_claim.ensures query (listing_prepared known c.list_steps.ensures long c.finish_room-room.ensures c.start_arrival-from.ensures)
+    let query = query_lent c.args.trip.now.query in
+    let known = sound query (length c.args.sheet.now.labels.now) c.requires.ready.accepted in
+    let long = label_length query (length c.args.sheet.now.labels.now) c.requires.ready.accepted in
+    c.check_claim.ensures query (listing_prepared known c.list_steps.ensures (omega (arith, long)) c.finish_room.ensures c.start_arrival.ensures)

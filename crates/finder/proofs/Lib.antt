@@ -1,2 +1,0 @@
--- Laws of the structs of the C ABI.
-pub mod Structs

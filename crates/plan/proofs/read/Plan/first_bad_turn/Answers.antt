@@ -1,0 +1,9 @@
+use Rattle.std.proofs.Common.{rules, refl}
+use Rattle.rules.specs.PlanCheck.{turn_bad}
+use Rattle.plan.specs.Lent.{plan_lent}
+use Rattle.plan.proofs.Finding.{first_from}
+use Rattle.plan.proofs.read.Plan.first_bad_turn.Goals as goal
+
+pub returns : goal.returns
+returns c =
+    first_from _ _ _ _ (turn_bad (plan_lent c.args.self.now)) _ c.find.ensures.ran refl c.turn_count.ensures (λ x q e. search rules) (λ x q e. search rules)
