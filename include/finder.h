@@ -175,7 +175,7 @@ finder_answer finder_check_plan(uint32_t points, const uint32_t *sections, size_
  *               and the number of steps, which may be 0
  *   12          labels are written as on success; route is kept
  *   all others  both buffers are kept
- * It looks for pull-outs and takes up to 0.83 MB of stack; what holds of finder_pull_out's time holds here too, docs/LIMITS.md.
+ * It looks for pull-outs and takes up to 0.78 MB of stack; what holds of finder_pull_out's time holds here too, docs/LIMITS.md.
  * Proved, with finder_search's contract in crates/finder/src/lib.rt, in crates/rules/proofs:
  *   a walk handed out is admissible, none is shorter, and among equals it is the first by section numbers (handed_out_walk,
  *   handed_out_shortest, handed_out_first); total, reversals and steps are its own (handed_out_numbers); 12 is given exactly when 1 to 11
@@ -209,7 +209,7 @@ typedef struct {
  *   14         the pull-out has more sections than list_len
  * Afterwards: on success the front of list holds the section numbers, from the point outwards, and the rest of it is kept; the answer
  * has their count. A refused call keeps the list.
- * It takes up to 0.74 MB of stack, and on some plans its time is not bounded by anything useful: docs/LIMITS.md.
+ * It takes up to 0.72 MB of stack, and on some plans its time is not bounded by anything useful: docs/LIMITS.md.
  * Proved: what is found is a pull-out and the first one; 16 is given exactly when 1 to 7 and 15 are not and there is none; the answer and
  * every entry of the list are determined (finder_pull_out's contract in crates/finder/src/lib.rt; definition PullAnswer in
  * crates/rules/specs/PullAnswer.antt; theorems first_pull_unique and pull_unique in crates/rules/proofs/PullAnswers.antt). */
@@ -233,7 +233,7 @@ finder_pull finder_pull_out(uint32_t points, const uint32_t *sections, size_t se
  *   19                     with claim 1 the first distance and the start label are not the list's total; with claim 0 the start
  *                          label is not FINDER_NONE
  * Afterwards: nothing is written. An accepted walk gets its total, reversals and steps, an accepted "no route" zeros. No sum wraps.
- * It looks for pull-outs and takes up to 0.79 MB of stack; what holds of finder_pull_out's time holds here too, docs/LIMITS.md.
+ * It looks for pull-outs and takes up to 0.76 MB of stack; what holds of finder_pull_out's time holds here too, docs/LIMITS.md.
  * Proved, whoever wrote the sheet, with finder_check_sheet's contract in crates/finder/src/lib.rt, in crates/sheet/proofs/Demand.antt:
  *   an accepted list is a shortest admissible walk (accepted_is_shortest), and an accepted "no route" means that there is none
  *   (accepted_no_route); the remaining distances with any shortest walk (shortest_is_accepted), or with "no route" where there is none

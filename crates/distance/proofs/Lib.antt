@@ -8,3 +8,4 @@ pub mod Exactness
 pub mod Fronts
 pub mod Following
 pub mod Unique
+pub mod Every

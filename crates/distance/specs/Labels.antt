@@ -26,7 +26,8 @@ unfoldable pub label_sum : List ℕ → ℕ
 label_sum [] = 0
 label_sum (x ∷ xs) = x + label_sum xs
 
--- each arrival of the table has a label, and there are at most so many
+-- each arrival of the table has a label, and there are at most so many. Table and labels stay two parameters: the labels are lent to be
+-- changed, and each contract over a struct that held them would have to say that they are the same slice still.
 pub record Sizes (most : ℕ) (t : NetTable) (labels : List ℕ) : Type 0 where
   pub few : length labels ≤ most
   pub one_each : length labels ≡ length t.rows.now

@@ -1,4 +1,5 @@
-// Sweeps over all arrivals, until nothing falls: then each label is the best that is offered.
+// Sweeps over all arrivals, until nothing falls: then each label is the best that is offered. The worklist leaves none to fall, as lib.rt
+// argues, so one look at each arrival is all that a run takes here; sweeps stand for the proof, which knows nothing of the worklist's order.
 ghost use Rattle.std.specs.Prelude.{◌≡◌, true, ◌≤◌, ◌<◌, length, get_or};
 ghost use Rattle.rules.specs.Net.{no_distance};
 ghost use Rattle.distance.specs.Labels.{best, Sizes, Above, Settled, Relaxed, Swept, Still};
@@ -28,17 +29,21 @@ fn sweep(net: &NetTable, labels: &mut [u32]) -> bool
     fell
 }
 
+// The label of arrival a is no more than what is offered.
+fn is_still(net: &NetTable, labels: &[u32], a: usize) -> bool
+    requires one_each { length labels.now ≡ length net.now.rows.now }
+    requires in_bounds { a < length labels.now }
+    ensures { result ≡ true → get_or labels.now a no_distance ≤ best net.now labels.now a }
+{
+    labels[a] <= best(net, labels, a)
+}
+
 // Whether no label is more than what is offered: a sweep would find nothing, and takes longer.
 fn still(net: &NetTable, labels: &[u32]) -> bool
     requires { Sizes 2048 net.now labels.now }
     ensures { result ≡ true → Still net.now labels.now (length labels.now) }
 {
-    for a in 0..labels.len() {
-        if best(net, labels, a) < labels[a] {
-            return false;
-        }
-    }
-    true
+    (0..labels.len()).all(|a| is_still(net, labels, a))
 }
 
 // Sweeps until nothing falls.

@@ -33,6 +33,7 @@ pub fn first_walk(net: &NetTable, labels: &[u32], from: usize, walk: &mut [u32])
     ensures short { result < length net.now.rows.now }
 {
     let mut a = from;
+    // counted by hand: a `for` over the places of the walk would need an answer for a walk that fills them all, and there is none
     let mut k: usize = 0;
     while !net.rows[a].ends {
         let b = pick(net, labels, a);

@@ -10,7 +10,8 @@ use rules::net::{NetTable, Row, Step};
 
 // The last two places whose steps lead to an arrival: 2a is that of the first step of arrival a, 2a + 1 that of its second. No arrival of a
 // plan has a third; one left out would leave it to the sweep.
-// Places, since with arrivals, whose step had to be found, a run took a sixth longer; as u16, since options double the table that each run clears.
+// Places, since with arrivals, whose step had to be found, a run took a sixth longer; as u16 with 65535 for none,
+// since an Option<u16> has twice the size, and so would the table that each run clears.
 #[derive(Clone, Copy)]
 struct Leading {
     last: u16,
@@ -58,9 +59,7 @@ impl<const A: usize, const L: usize> Worklist<A, L> {
     fn begin_at(&mut self, net: &NetTable, labels: &mut [u32], a: usize)
         requires sizes { Sizes A net.now labels.old }
         requires in_bounds { a < length labels.old }
-        requires countable { self.old.queue.came < 4294967295 }
-        ensures kept { Kept net.now labels.old labels.new }
-        ensures counted { self.new.queue.came ≤ self.old.queue.came + 1 }
+        ensures { Kept net.now labels.old labels.new }
     {
         if net.rows[a].ends && lower(labels, a, net.room) {
             self.queue.wait(a, net.room);
@@ -70,9 +69,7 @@ impl<const A: usize, const L: usize> Worklist<A, L> {
     // Notes all steps, and gives the arrivals at which a walk may end their labels.
     fn begin(&mut self, net: &NetTable, labels: &mut [u32])
         requires sizes { Sizes A net.now labels.old }
-        requires none_came { self.old.queue.came ≡ 0 }
-        ensures kept { Kept net.now labels.old labels.new }
-        ensures counted { self.new.queue.came ≤ 2048 }
+        ensures { Kept net.now labels.old labels.new }
     {
         for a in 0..labels.len() {
             note_place(&mut self.leading, 2 * a, net.rows[a].first.next);
@@ -85,9 +82,7 @@ impl<const A: usize, const L: usize> Worklist<A, L> {
     fn pass_to(&mut self, net: &NetTable, labels: &mut [u32], b: usize, place: u16)
         requires sizes { Sizes A net.now labels.old }
         requires in_bounds { b < length labels.old }
-        requires countable { self.old.queue.came < 4294967295 }
-        ensures kept { Kept net.now labels.old labels.new }
-        ensures counted { self.new.queue.came ≤ self.old.queue.came + 1 }
+        ensures { Kept net.now labels.old labels.new }
     {
         let a = place as usize / 2;
         if labels.len() <= a {
@@ -107,9 +102,7 @@ impl<const A: usize, const L: usize> Worklist<A, L> {
     fn pass_back(&mut self, net: &NetTable, labels: &mut [u32], b: usize)
         requires sizes { Sizes A net.now labels.old }
         requires in_bounds { b < length labels.old }
-        requires countable { self.old.queue.came + 1 < 4294967295 }
-        ensures kept { Kept net.now labels.old labels.new }
-        ensures counted { self.new.queue.came ≤ self.old.queue.came + 2 }
+        ensures { Kept net.now labels.old labels.new }
     {
         let Leading { last, before } = self.leading[b];
         self.pass_to(net, labels, b, last);
@@ -120,9 +113,7 @@ impl<const A: usize, const L: usize> Worklist<A, L> {
     fn serve(&mut self, net: &NetTable, labels: &mut [u32], head: usize)
         requires sizes { Sizes A net.now labels.old }
         requires is_head { head < ARRIVALS }
-        requires countable { self.old.queue.came + 1 < 4294967295 }
-        ensures kept { Kept net.now labels.old labels.new }
-        ensures counted { self.new.queue.came ≤ self.old.queue.came + 2 }
+        ensures { Kept net.now labels.old labels.new }
     {
         let Some(b) = self.queue.take(head) else {
             return;
@@ -136,7 +127,6 @@ impl<const A: usize, const L: usize> Worklist<A, L> {
     // of the number of arrivals were taken out is for the proof that it ends.
     fn chase(&mut self, net: &NetTable, labels: &mut [u32])
         requires sizes { Sizes A net.now labels.old }
-        requires begun { self.old.queue.came ≤ 2048 }
         ensures { Kept net.now labels.old labels.new }
     {
         let mut head = ring(net.room);

@@ -9,13 +9,14 @@ use native.Mathlib.Decide.{ℕ_discrete}
 use lib.ListN.{length, get_or, set, take, replicate, length-set}
 use lib.Seq.{get_or-set_same, get_or-set_other}
 use Rattle.std.proofs.Common.{Option, Some, None}
+use Rattle.std.specs.Option.{IsSomeAnd}
 use Rattle.std.proofs.lemmas.List.{take_at}
 use Rattle.points.specs.declared.Points.{Points}
 use Rattle.points.specs.Points.{Among, member, Narrow, Loaded}
 use Rattle.lessons.specs.declared.lesson.Row.{Row}
 use Rattle.lessons.specs.Limit.{AnyList, Limit, Hopeless}
 use Rattle.lessons.specs.declared.lesson.Lesson.{Lesson}
-use Rattle.lessons.specs.Table.{nothing, no_lesson, no_row, Teaches, lesson_of, row_of, words_of, RightAt, Lessons, SameLessons, Recalled, silent, told, Wrote, left_out, put_in}
+use Rattle.lessons.specs.Table.{nothing, no_row, Teaches, lesson_of, row_of, words_of, RightAt, Lessons, SameLessons, Recalled, silent, told, Wrote, left_out, put_in}
 use Rattle.points.proofs.Words.{saved_kept}
 use Rattle.lessons.proofs.Limits.{looser}
 
@@ -27,24 +28,24 @@ alike_back e k t = rw (e k) t
 pub recalled_silent : {h p left : ℕ} {marks : ℕ → Bool} {b m : List Row} {ws us : Points} {r : Option ℕ}
     → Recalled h p marks left b ws r m us → r ≡ None → us ≡ ws
 recalled_silent (silent e i k) z = k
-recalled_silent (told j l i t e k v) z = cc
+recalled_silent (told j lesson l i f t e k v) z = cc
 
-no_lessons : (l : Lesson) → l.over ≡ None → (n j : ℕ) → (get_or (replicate n l) j no_lesson).over ≡ None
-no_lessons l e zero j = refl
-no_lessons l e (suc n) zero = e
-no_lessons l e (suc n) (suc j) = no_lessons l e n j
+no_lessons : (n j : ℕ) → ◌≡◌ {A = Option Lesson} (get_or (replicate n None) j None) None
+no_lessons zero j = refl
+no_lessons (suc n) zero = refl
+no_lessons (suc n) (suc j) = no_lessons n j
 
-no_rows : (n p j : ℕ) → (lesson_of (replicate n nothing) p j).over ≡ None
+no_rows : (n p j : ℕ) → lesson_of (replicate n nothing) p j ≡ None
 no_rows zero p j = refl
-no_rows (suc n) zero j = no_lessons _ refl 4 j
+no_rows (suc n) zero j = no_lessons 4 j
 no_rows (suc n) (suc p) j = no_rows n p j
 
 -- the point's row is changed, in where its next lesson goes alone
-pub telling : {h p left j : ℕ} {marks : ℕ → Bool} {b : List Row} {ws us : Points} (row : Row) → p < length b → row.lessons ≡ (row_of b p).lessons
-    → (j < 4) × Teaches (lesson_of b p j) h marks left → Loaded (words_of (lesson_of b p j)) us
-    → Recalled h p marks left b ws (Some (lesson_of b p j).most) (set b p row) us
-telling {h} {p} {left} {j} {marks} {b} {ws} {us} row l e t k =
-    told j t.0 l t.1 refl k (record { size = simp length-set; lessons = rw (get_or-set_same b p row no_row l) e; others = λ q n. get_or-set_other b p q row no_row n })
+pub telling : {h p left j : ℕ} {marks : ℕ → Bool} {b : List Row} {ws us : Points} {lesson : Lesson} (row : Row) → p < length b → row.lessons ≡ (row_of b p).lessons
+    → (j < 4) × IsSomeAnd (lesson_of b p j) (λ known. Teaches known h marks left) → lesson_of b p j ≡ Some lesson → Loaded (words_of lesson) us
+    → Recalled h p marks left b ws (Some lesson.most) (set b p row) us
+telling {h} {p} {left} {j} {marks} {b} {ws} {us} {lesson} row l e t f k =
+    told j lesson t.0 l f (rw f at t.1) refl k (record { size = simp length-set; lessons = rw (get_or-set_same b p row no_row l) e; others = λ q n. get_or-set_other b p q row no_row n })
 
 -- words that are written over the first of a lesson's are the words that it has
 pub first_words : (ws new after : List ℕ) {m n : ℕ} → n ≤ 24 → length new ≡ m → new ≡ take m ws → m ≡ n → take (min n 24) (new ++ after) ≡ take n ws
@@ -52,31 +53,30 @@ first_words ws new after {m} {n} l size e same = let few : min n 24 ≡ m = omeg
 
 -- the point's row is changed, in its lesson j and where the next one goes
 pub writing : {h p most j : ℕ} {ws : Points} {b : List Row} (l : Lesson) (next : ℕ) → p < length b → j < length (row_of b p).lessons → j < 4
-    → l.over ≡ Some h → l.most ≡ most → Narrow ws l.words → words_of l ≡ take l.words ws.words
-    → Wrote h p most ws b (set b p (record { next = next; lessons = set (row_of b p).lessons j l }))
+    → l.over ≡ h → l.most ≡ most → Narrow ws l.words → words_of l ≡ take l.words ws.words
+    → Wrote h p most ws b (set b p (record { next = next; lessons = set (row_of b p).lessons j (Some l) }))
 writing {h} {p} {most} {j} {ws} {b} l next inside room four over far narrow words =
     put_in j four (simp length-set)
     (record {
-      over = rw (row, lesson) over;
-      far = rw (row, lesson) far;
-      narrow = rw (row, lesson) narrow;
-      reasons = λ k. rw (row, lesson) (rw words (saved_kept narrow k));
-      lessons = λ i n. rw row (get_or-set_other (row_of b p).lessons j i l no_lesson n);
+      lesson = l;
+      placed = rw row (get_or-set_same (row_of b p).lessons j (Some l) None room);
+      over = over;
+      far = far;
+      narrow = narrow;
+      reasons = λ k. rw words (saved_kept narrow k);
+      lessons = λ i n. rw row (get_or-set_other (row_of b p).lessons j i (Some l) None n);
       others = λ q n. get_or-set_other b p q _ no_row n;
     })
   where
     now : Row
-    now = record { next = next; lessons = set (row_of b p).lessons j l }
+    now = record { next = next; lessons = set (row_of b p).lessons j (Some l) }
 
     row : get_or (set b p now) p no_row ≡ now
     row = get_or-set_same b p now no_row inside
 
-    lesson : get_or (set (row_of b p).lessons j l) j no_lesson ≡ l
-    lesson = get_or-set_same (row_of b p).lessons j l no_lesson room
-
 module _ {ss ts : List ℕ} {c s : ℕ} where
   pub blank_lessons : (n : ℕ) → Lessons ss ts c s (replicate n nothing)
-  blank_lessons n = record { right = λ p j h e. let none = no_rows n p j in cc }
+  blank_lessons n = record { right = λ p j l e. let none = no_rows n p j in cc }
 
   -- what the table tells a try
   module _ {h p left : ℕ} {marks : ℕ → Bool} {b m : List Row} {ws us : Points} {r : Option ℕ} (right : Lessons ss ts c s b) (o : Recalled h p marks left b ws r m us) where
@@ -89,19 +89,19 @@ module _ {ss ts : List ℕ} {c s : ℕ} where
 
         go : Recalled h p marks left b ws r m us → Lessons ss ts c s m
         go (silent e i k) = rw i right
-        go (told j l i t e k v) = record { right = λ q a. rw (same_lessons v q a (ℕ_discrete q p)) (right.right q a) }
+        go (told j lesson l i f t e k v) = record { right = λ q a. rw (same_lessons v q a (ℕ_discrete q p)) (right.right q a) }
 
     pub recalled_hopeless : {most : ℕ} → r ≡ Some most → Hopeless ss ts c s h p AnyList marks left (member us) most
     recalled_hopeless {most} z = go o
       where
         go : Recalled h p marks left b ws r m us → Hopeless ss ts c s h p AnyList marks left (member us) most
         go (silent e i k) = cc
-        go (told j l i t e k v) =
-            let far : (lesson_of b p j).most ≡ most = cc in
+        go (told j lesson l i f t e k v) =
+            let far : lesson.most ≡ most = cc in
             record {
-              met = λ n f. t.met n (rw (k.members n) at f);
+              met = λ n u. t.met n (rw (k.members n) at u);
               less = rw far at t.less;
-              limit = looser (λ qs f. f) (alike_back k.members) (omega arith) (right.right p j h t.over);
+              limit = looser (λ qs u. u) (alike_back k.members) (omega arith) (rw t.over at (right.right p j lesson f));
             }
 
   -- a limit that is kept
@@ -111,7 +111,9 @@ module _ {ss ts : List ℕ} {c s : ℕ} where
   wrote_lessons {h} {p} {most} {ws} {b} {m} right u (put_in j l z w) = record { right = λ q i. go q i (ℕ_discrete q p) (ℕ_discrete i j) }
     where
       here : RightAt ss ts c s p (lesson_of m p j)
-      here x e = let same : x ≡ h = cc in rw same (looser (λ qs k. k) (alike_back w.reasons) (omega arith) u)
+      here x e =
+          let same : x ≡ w.lesson = cc in
+          rw (same, w.over) (looser (λ qs k. k) (alike_back w.reasons) (omega (arith, w.far)) u)
 
       go : (q i : ℕ) → Dec (q ≡ p) → Dec (i ≡ j) → RightAt ss ts c s q (lesson_of m q i)
       go q i (yes e) (yes f) = rw (e, f) here

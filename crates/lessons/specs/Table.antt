@@ -7,24 +7,20 @@ use Rattle.lessons.specs.declared.lesson.Lesson.{Lesson}
 use Rattle.lessons.specs.declared.lesson.Row.{Row}
 use Rattle.lessons.specs.Limit.{AnyList, Limit}
 
--- no lesson
-abbrev pub no_lesson : Lesson
-no_lesson = record { most = 0; over = None; words = 0; reasons = [] }
-
 -- no row
 abbrev pub no_row : Row
 no_row = record { next = 0; lessons = [] }
 
 -- lesson j of a row
-abbrev pub lesson_in : Row → ℕ → Lesson
-lesson_in row j = get_or row.lessons j no_lesson
+abbrev pub lesson_in : Row → ℕ → Option Lesson
+lesson_in row j = get_or row.lessons j None
 
 -- the row of the point p; past the table's end there is none
 abbrev pub row_of : List Row → ℕ → Row
 row_of memo p = get_or memo p no_row
 
 -- lesson j of the point p
-abbrev pub lesson_of : List Row → ℕ → ℕ → Lesson
+abbrev pub lesson_of : List Row → ℕ → ℕ → Option Lesson
 lesson_of memo p j = lesson_in (row_of memo p) j
 
 -- the words that keep a lesson's reasons
@@ -37,11 +33,11 @@ reasons_of lesson = kept (words_of lesson)
 
 -- a row that has no lesson, as a table is filled with
 abbrev pub nothing : Row
-nothing = record { next = 0; lessons = replicate 4 (record { most = 0; over = None; words = 0; reasons = replicate 24 0 }) }
+nothing = record { next = 0; lessons = replicate 4 None }
 
--- a lesson of the point p is a limit of its arrival
-abbrev pub RightAt : List ℕ → List ℕ → ℕ → ℕ → ℕ → Lesson → Type 0
-RightAt ss ts c s p lesson = (h : ℕ) → lesson.over ≡ Some h → Limit ss ts c s h p AnyList (reasons_of lesson) lesson.most
+-- a place of the point p has no lesson, or one that is a limit of its arrival
+abbrev pub RightAt : List ℕ → List ℕ → ℕ → ℕ → ℕ → Option Lesson → Type 0
+RightAt ss ts c s p found = (lesson : Lesson) → found ≡ Some lesson → Limit ss ts c s lesson.over p AnyList (reasons_of lesson) lesson.most
 
 -- so is each in the table
 pub record Lessons (ss ts : List ℕ) (c s : ℕ) (memo : List Row) : Type 0 where
@@ -49,7 +45,7 @@ pub record Lessons (ss ts : List ℕ) (c s : ℕ) (memo : List Row) : Type 0 whe
 
 -- the lesson tells a try with these marks and the length `left`, come over section h, that it is in vain
 pub record Teaches (lesson : Lesson) (h : ℕ) (marks : ℕ → Bool) (left : ℕ) : Type 0 where
-  pub over : lesson.over ≡ Some h
+  pub over : lesson.over ≡ h
   pub less : lesson.most < left
   pub met : Among (reasons_of lesson) marks
 
@@ -63,16 +59,18 @@ pub record SameLessons (p : ℕ) (b m : List Row) : Type 0 where
 -- after: nothing, or the limit of a lesson
 pub data Recalled (h p : ℕ) (marks : ℕ → Bool) (left : ℕ) (b : List Row) (ws : Points) (r : Option ℕ) (m : List Row) (us : Points) : Type 0 where
   silent : r ≡ None → m ≡ b → us ≡ ws → Recalled h p marks left b ws r m us
-  told : (j : ℕ) → j < 4 → p < length b → Teaches (lesson_of b p j) h marks left → r ≡ Some (lesson_of b p j).most
-      → Loaded (words_of (lesson_of b p j)) us → SameLessons p b m → Recalled h p marks left b ws r m us
+  told : (j : ℕ) (lesson : Lesson) → j < 4 → p < length b → lesson_of b p j ≡ Some lesson → Teaches lesson h marks left
+      → r ≡ Some lesson.most → Loaded (words_of lesson) us → SameLessons p b m → Recalled h p marks left b ws r m us
 
 -- lesson j of the point p in the table m says that a train come over h gets no further than `most`, because of the set ws; but for that
 -- lesson, and for where the next one of p goes, the table is b
 pub record Placed (h p most : ℕ) (ws : Points) (b : List Row) (j : ℕ) (m : List Row) : Type 0 where
-  pub over : (lesson_of m p j).over ≡ Some h
-  pub far : (lesson_of m p j).most ≡ most
-  pub narrow : Narrow ws (lesson_of m p j).words
-  pub reasons : (k : ℕ) → reasons_of (lesson_of m p j) k ≡ member ws k
+  pub lesson : Lesson
+  pub placed : lesson_of m p j ≡ Some lesson
+  pub over : lesson.over ≡ h
+  pub far : lesson.most ≡ most
+  pub narrow : Narrow ws lesson.words
+  pub reasons : (k : ℕ) → reasons_of lesson k ≡ member ws k
   pub lessons : (i : ℕ) → i ≢ j → lesson_of m p i ≡ lesson_of b p i
   pub others : (q : ℕ) → q ≢ p → row_of m q ≡ row_of b q
 

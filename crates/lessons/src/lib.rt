@@ -30,7 +30,7 @@ pub fn recall(
     }
     let row = &memo[p];
     let which = row.lesson_for(h, marks, left)?;
-    let lesson = &row.lessons[which];
+    let lesson = row.lessons[which].as_ref()?;
     let most = lesson.most;
     why.load(lesson.kept());
     memo[p].next = which as u32 + 1;
@@ -49,10 +49,11 @@ pub fn keep(memo: &mut [Row], h: u32, p: u32, most: u32, why: &Points)
     let row = &mut memo[p];
     let place = row.next % 4;
     row.next = place + 1;
-    let lesson = &mut row.lessons[place as usize];
     let words = why.width();
+    // the memory of a lesson is written over, and no more of it than the words that count
+    let lesson = row.lessons[place as usize].get_or_insert_default();
     lesson.most = most;
-    lesson.over = Some(h as u16);
+    lesson.over = h as u16;
     lesson.words = words as u16;
     why.save(&mut lesson.reasons[..words]);
 }

@@ -39,11 +39,8 @@ module _ {ss slots : List ℕ} {s a j : ℕ} (looked : Looked ss slots s a j) wh
   own_touch : T (touches (of_sections ss) s (end_A (of_sections ss) s))
   own_touch = touch_A ss s (end_A (of_sections ss) s) (omega arith)
 
-  pub slot_inside : (a < 768) × (j < 3)
-  slot_inside = (
-    omega (arith, looked.end, (looked.known.joined.each s looked.low).a),
-    omega (arith, looked.within, slot_low looked.known.joined looked.known.three s (end_A (of_sections ss) s) looked.low own_touch),
-  )
+  pub slot_inside : j < 3
+  slot_inside = omega (arith, looked.within, slot_low looked.known.joined looked.known.three s (end_A (of_sections ss) s) looked.low own_touch)
 
   module _ {r : ℕ} (e : r ≡ get_or slots (3 * a + j) 0) where
     -- a slot before its own holds an earlier section

@@ -11,7 +11,8 @@ pub record Joins (ss : List ℕ) (s : ℕ) : Type 0 where
   pub b : end_B (of_sections ss) s < 768
   pub apart : end_A (of_sections ss) s ≢ end_B (of_sections ss) s
 
--- what refusals 1 and 2 have seen to: there are at most 1,024 sections, and each joins two different points
+-- what refusals 1 and 2 have seen to: there are at most 1,024 sections, and each joins two different points (no type of its own: it is
+-- known only after those two, of the tables that all of the check reads)
 pub record Joined (ss : List ℕ) : Type 0 where
   pub few : section_count (of_sections ss) ≤ 1024
   pub each : (s : ℕ) → s < section_count (of_sections ss) → Joins ss s

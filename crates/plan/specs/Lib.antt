@@ -1,5 +1,5 @@
--- What this crate says beyond the rules: tables of the sections at each point, a turn's rule in two halves, and the answer's
--- number and place.
+-- What this crate says beyond the rules: what a lent plan stands for and the first number at which a test holds, tables of the sections at each
+-- point, and a turn's rule in two halves.
 pub mod Lent
 pub mod Ends
 pub mod Turns

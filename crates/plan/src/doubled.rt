@@ -7,7 +7,7 @@ ghost use Rattle.plan.specs.Lent.{plan_lent, First};
 
 use crate::degree::at_most_three;
 use crate::read::{END_A, Plan};
-use crate::slots::slot_at;
+use crate::slots::slots_of;
 
 impl Plan<'_> {
     // Section s against each earlier one.
@@ -25,36 +25,19 @@ impl Plan<'_> {
         ensures { result ≡ doubled (plan_lent self.now) s }
     {
         let a = self.number(s, END_A);
-        for j in 0..3 {
-            let r = slot_at(slots, a, j);
-            if r == s {
+        for r in slots_of(slots, a) {
+            if *r == s {
                 return false;
             }
-            if self.same_ends(s, r) {
+            if self.same_ends(s, *r) {
                 return true;
             }
         }
         false
     }
 
-    // The first section that joins the same two points as an earlier one: looked for anywhere.
-    fn first_doubled_anywhere(&self) -> Option<u32>
-        requires { section_count (plan_lent self.now) < 4294967296 }
-        ensures { First (doubled (plan_lent self.now)) (section_count (plan_lent self.now)) result }
-    {
-        (0..self.section_count()).find(|s| self.doubled_anywhere(*s))
-    }
-
-    // The same, looked for nearby.
-    fn first_doubled_nearby(&self, slots: &[u32; 2304]) -> Option<u32>
-        requires { Indexed self.now.sections.now slots.now }
-        ensures { First (doubled (plan_lent self.now)) (section_count (plan_lent self.now)) result }
-    {
-        (0..self.section_count()).find(|s| self.doubled_nearby(slots, *s))
-    }
-
-    // The same, in time linear in the number of sections where no point has over three; then the slots are filled too. Any other plan is
-    // refused anyway.
+    // The first section that joins the same two points as an earlier one, in time linear in the number of sections where no point has over
+    // three; then the slots are filled too. Any other plan is refused anyway.
     pub(crate) fn first_doubled(&self, degrees: &[u32; 768], slots: &mut [u32; 2304]) -> Option<u32>
         requires joined { Joined self.now.sections.now }
         requires degrees { Degrees self.now.sections.now degrees.now }
@@ -64,9 +47,9 @@ impl Plan<'_> {
     {
         if at_most_three(degrees) {
             self.index_into(slots);
-            self.first_doubled_nearby(slots)
+            (0..self.section_count()).find(|s| self.doubled_nearby(slots, *s))
         } else {
-            self.first_doubled_anywhere()
+            (0..self.section_count()).find(|s| self.doubled_anywhere(*s))
         }
     }
 }

@@ -4,7 +4,7 @@ ghost use Rattle.rules.specs.Plan.{section_count};
 ghost use Rattle.rules.specs.PlanCheck.{ground_good, stock_good, section_bad};
 ghost use Rattle.plan.specs.Lent.{plan_lent, First};
 
-use crate::read::{END_A, END_B, FREE_A, FREE_B, KIND, LENGTH, Plan};
+use crate::read::{DESTINATION, END_A, END_B, FREE_A, FREE_B, KIND, LENGTH, Plan};
 
 impl Plan<'_> {
     // Section s keeps the ground's part of its rule: two different points, a length in range, one of the two kinds.
@@ -19,7 +19,7 @@ impl Plan<'_> {
             && a != b
             && 1 <= whole
             && whole <= 200000
-            && self.number(s, KIND) <= 1
+            && self.number(s, KIND) <= DESTINATION
     }
 
     // Section s keeps the stock's part of its rule: it is free, or its free lengths leave some of it over. As a usize their sum is exact.

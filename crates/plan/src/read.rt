@@ -16,7 +16,13 @@ pub const FREE_A: u32 = 4;
 
 pub const FREE_B: u32 = 5;
 
-// How many points there are, six numbers for each section, and two for each turn.
+// A section's two kinds.
+pub const CONNECTING: u32 = 0;
+
+pub const DESTINATION: u32 = 1;
+
+// How many points there are, six numbers for each section, and two for each turn. C lends the two tables as they are, so columns, kinds and
+// ends (0 = A, 1 = B) are numbers of theirs and no enums.
 #[derive(Clone, Copy)]
 pub struct Plan<'a> {
     pub points: u32,

@@ -1,6 +1,6 @@
 // What a section's numbers say of it: whether it is free, where it ends, and what another section shares with it.
 ghost use Rattle.std.specs.Prelude.{◌≡◌};
-ghost use Rattle.rules.specs.Plan.{is_free, touches, far, free_from, same_ends, shared_point};
+ghost use Rattle.rules.specs.Plan.{is_free, to_point, touches, far, free_from, same_ends, shared_point};
 ghost use Rattle.plan.specs.Lent.{plan_lent};
 
 use crate::read::{END_A, END_B, FREE_A, FREE_B, LENGTH, Plan};
@@ -12,6 +12,13 @@ impl Plan<'_> {
     {
         let whole = self.number(s, LENGTH);
         self.number(s, FREE_A) == whole && self.number(s, FREE_B) == whole
+    }
+
+    // The point to which an arrival comes.
+    pub fn to_point(&self, arrival: u32) -> u32
+        ensures { result ≡ to_point (plan_lent self.now) arrival }
+    {
+        self.number(arrival / 2, arrival % 2)
     }
 
     // The point p is an end of section s.

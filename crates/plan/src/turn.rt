@@ -5,7 +5,7 @@ ghost use Rattle.rules.specs.PlanCheck.{turn_bad};
 ghost use Rattle.plan.specs.Lent.{plan_lent, First};
 ghost use Rattle.plan.specs.Turns.{connecting_pair, share_point};
 
-use crate::read::{END_A, END_B, KIND, Plan};
+use crate::read::{CONNECTING, END_A, END_B, KIND, Plan};
 
 impl Plan<'_> {
     // Sections s and r share a point.
@@ -22,8 +22,8 @@ impl Plan<'_> {
         self.has_section(s)
             && self.has_section(r)
             && s != r
-            && self.number(s, KIND) == 0
-            && self.number(r, KIND) == 0
+            && self.number(s, KIND) == CONNECTING
+            && self.number(r, KIND) == CONNECTING
     }
 
     // Turn t is not two different connecting sections that share a point.

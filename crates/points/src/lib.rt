@@ -49,10 +49,9 @@ impl Points {
     pub fn add(&mut self, more: &Points)
         ensures { Added self.old more.now self.new }
     {
-        // read as a slice, which costs no instruction
-        let more = &more.words[..];
+        // by index, since an invariant has no name for the slice behind a `zip`
         for (i, word) in self.words.iter_mut().enumerate() {
-            *word |= more[i];
+            *word |= more.words[i];
         }
     }
 
@@ -60,14 +59,10 @@ impl Points {
     pub fn width(&self) -> usize
         ensures { Narrow self.now result }
     {
-        // read as a slice, as in `add`
-        let words = &self.words[..];
-        for n in (0..words.len()).rev() {
-            if words[n] != 0 {
-                return n + 1;
-            }
-        }
-        0
+        self.words
+            .iter()
+            .rposition(|word| *word != 0)
+            .map_or(0, |n| n + 1)
     }
 
     // Every point of the set whose first words these are is in this set.
@@ -75,7 +70,7 @@ impl Points {
         requires { length saved.now ≤ 24 }
         ensures { result ≡ true ↔ Among (kept saved.now) (member self.now) }
     {
-        self.words[..]
+        self.words
             .iter()
             .zip(saved)
             .all(|(word, more)| *more | *word == *word)

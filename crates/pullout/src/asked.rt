@@ -17,7 +17,7 @@ impl Reversal<'_> {
     pub(crate) fn point(&self) -> u32
         ensures { result ≡ to_point (plan_lent self.now.plan) self.now.arrival }
     {
-        self.plan.number(self.arrival / 2, self.arrival % 2)
+        self.plan.to_point(self.arrival)
     }
 
     // There are such an arrival and such a section, and they meet.

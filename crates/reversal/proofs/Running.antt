@@ -1,17 +1,16 @@
 -- A run through a pull-out: what leads on from where the train stands makes a pull-out from the start.
 -- Assumes nothing.
-use Rattle.std.proofs.Common.{◌≡◌, refl, ⊎_elim, Bool, true, List, [], ◌∷◌, ◌++◌, ℕ, ◌<◌, arith}
+use Rattle.std.proofs.Common.{◌≡◌, refl, ⊎_elim, Bool, true, List, [], ◌∷◌, ◌++◌, ℕ, arith}
 use Rattle.std.specs.List.{Contains}
 use Rattle.std.proofs.lemmas.List.Elements.{Contains-append_left, Contains-append_right}
 use lib.Dec.{T, eqb→eq}
 use Rattle.rules.proofs.Tests.{fails}
 use Rattle.rules.proofs.Ways.{only, mark, mark_cases, last}
-use Rattle.turns.specs.Tables.{Arrived}
 use Rattle.turns.specs.declared.enter.Serving.{Serving}
 use Rattle.reversal.specs.declared.glance.Position.{Position}
 use Rattle.reversal.specs.declared.glance.Ahead.TheVariants.{Last}
 use Rattle.reversal.specs.Reverses.{CanReverse}
-use Rattle.reversal.specs.Glanced.{CameTo, Glanced, LeadsTo}
+use Rattle.reversal.specs.Glanced.{Starts, CameTo, Glanced, LeadsTo}
 use Rattle.reversal.proofs.Glancing.{WayFrom, leads_came, leads_way}
 use Rattle.reversal.proofs.Reversing.{way_reverses}
 
@@ -23,17 +22,16 @@ pub record Running (v : Serving) (n p : ℕ) (passed : List ℕ) (train : Positi
   pub came : CameTo v train
   pub leads : (qs : List ℕ) → WayFrom v train marks qs → CanReverse v p n true
 
-module _ {v : Serving} {n p : ℕ} where
-  pub running_first : {passed : List ℕ} → passed ≡ p ∷ [] → Arrived v.yard.now.plan.sections.now v.from p → 0 < n
-      → Running v n p passed (record { over = v.from; at = p; left = n })
-  running_first e a z =
-      record {
-        marks = only p;
-        noted = λ k t. rw (e, eqb→eq k p t) (0, omega arith, refl);
-        came = a;
-        leads = way_reverses z;
-      }
+pub running_first : {v : Serving} {passed : List ℕ} {start : Position} → passed ≡ start.at ∷ [] → Starts v start → Running v start.left start.at passed start
+running_first {start = start} e s =
+    record {
+      marks = only start.at;
+      noted = λ k t. rw (e, eqb→eq k start.at t) (0, omega arith, refl);
+      came = s.came;
+      leads = λ qs w. way_reverses s.some qs (rw s.over at w);
+    }
 
+module _ {v : Serving} {n p : ℕ} where
   -- over a section to a point that is not among those passed
   module _ {passed : List ℕ} {from to : Position} (f : Running v n p passed from) {e : ℕ} (g : LeadsTo v from e to) (new : Contains passed to.at → ⊥) where
     noted_more : (k : ℕ) → T (mark to.at f.marks k) → Contains (passed ++ (to.at ∷ [])) k

@@ -29,6 +29,12 @@ pub record GoesOver (ss ts : List ℕ) (c s n h p e q m : ℕ) : Type 0 where
 abbrev pub CameTo : Serving → Position → Type 0
 CameTo v from = Arrived v.yard.now.plan.sections.now from.over from.at
 
+-- a train of some length stands there that is to serve the turn: it has come over the turn's first section
+pub record Starts (v : Serving) (from : Position) : Type 0 where
+  pub over : from.over ≡ v.from
+  pub came : CameTo v from
+  pub some : 0 < from.left
+
 -- the list takes what is left there
 abbrev pub TakesFrom : Serving → Position → List ℕ → Type 0
 TakesFrom v from = Takes v.yard.now.plan.sections.now v.yard.now.plan.turns.now v.from v.onto from.left from.over from.at

@@ -1,6 +1,7 @@
 // A glance at one section: what it is to a pull-out, whatever points have been passed.
-ghost use Rattle.turns.specs.Tables.{Ready};
-ghost use Rattle.reversal.specs.Glanced.{CameTo, Glanced, Seen};
+ghost use Rattle.std.specs.Prelude.{◌≡◌, ◌<◌};
+ghost use Rattle.turns.specs.Tables.{Ready, Arrived};
+ghost use Rattle.reversal.specs.Glanced.{Starts, CameTo, Glanced, Seen};
 
 use plan::read::LENGTH;
 use turns::Serving;
@@ -11,6 +12,23 @@ pub struct Position {
     pub over: u32,
     pub at: u32,
     pub left: u32,
+}
+
+impl Position {
+    // Where the turn begins: at the end p of the section that the train came over, with its whole length left.
+    pub(crate) fn start(serving: &Serving, p: u32, length: u32) -> Self
+        requires arrived { Arrived serving.now.yard.now.plan.sections.now serving.now.from p }
+        requires some { 0 < length }
+        ensures starts { Starts serving.now result }
+        ensures point { result.at ≡ p }
+        ensures whole { result.left ≡ length }
+    {
+        Position {
+            over: serving.from,
+            at: p,
+            left: length,
+        }
+    }
 }
 
 // What a section is from there: not to be entered; the last; or one to go on over, to where it leads.
@@ -52,8 +70,8 @@ pub(crate) fn straight_on(serving: &Serving, from: &Position) -> Ahead
     requires came { CameTo serving.now from.now }
     ensures { Seen serving.now from.now result }
 {
-    for j in 0..3 {
-        let ahead = glance(serving, from, serving.yard.slot_at(from.at, j));
+    for &e in serving.yard.slots_of(from.at) {
+        let ahead = glance(serving, from, e);
         if ahead != Ahead::Shut {
             return ahead;
         }

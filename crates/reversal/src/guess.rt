@@ -22,8 +22,7 @@ pub(crate) fn guess_point(
     ensures { Guessed (TakesFrom serving.now from.now) budget result }
 {
     let mut left = budget;
-    for j in 0..3 {
-        let e = serving.yard.slot_at(from.at, j);
+    for &e in serving.yard.slots_of(from.at) {
         left = guess_section(serving, from, e, left, list)?;
     }
     Some(left)

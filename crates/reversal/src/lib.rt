@@ -39,18 +39,14 @@ pub fn can_reverse(serving: &Serving, p: u32, length: u32) -> bool
     requires some { 0 < length }
     ensures { (v : ℕ) → Reverses (plan_of v serving.now.yard.now.plan.sections.now serving.now.yard.now.plan.turns.now) length serving.now.from p serving.now.onto result }
 {
-    if runs_out(serving, p, length) {
+    let start = Position::start(serving, p, length);
+    if runs_out(serving, &start) {
         return true;
     }
     let mut list = [0; 64];
-    let start = Position {
-        over: serving.from,
-        at: p,
-        left: length,
-    };
     let missed = guess_point(serving, &start, BUDGET, &mut list).is_some();
     if missed {
         return false;
     }
-    follow(serving, p, length, &list) || search_reversal(serving, p, length)
+    follow(serving, &start, &list) || search_reversal(serving, p, length)
 }

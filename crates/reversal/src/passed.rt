@@ -3,7 +3,8 @@ ghost use Rattle.std.specs.Prelude.{◌≡◌, true, false, [], ◌∷◌, ◌++
 ghost use Rattle.std.specs.List.{Contains};
 ghost use Rattle.reversal.specs.Passed.{points_of};
 
-// The first `count` of these points.
+// The first `count` of these points. No ArrayVec of the kit, which is no plainer: `add` would make the same two tests, and the library that C
+// links would rest on a crate from outside for it.
 #[derive(Drop)]
 pub struct Passed {
     pub points: [u32; 64],

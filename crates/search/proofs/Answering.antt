@@ -1,6 +1,6 @@
 -- The answers of the search, one law for each of its ends.
 -- Assumes nothing.
-use Rattle.std.proofs.Common.{◌≡◌, ℕ, Result, Ok, Err, List, [], ◌∷◌, ◌++◌, refl, sym, ◌∙◌, arith, ◌+◌, ◌≤◌, ◌<◌, length, get_or, drop}
+use Rattle.std.proofs.Common.{◌≡◌, ℕ, Result, Ok, Err, List, [], ◌∷◌, ◌++◌, refl, sym, ◌∙◌, arith, ◌≤◌, ◌<◌, length, get_or, drop}
 use lib.Dec.{ltb}
 use Rattle.std.specs.Prelude.{IsErrAnd}
 use Rattle.rules.specs.declared.route.Route.{Route}
@@ -8,10 +8,10 @@ use Rattle.search.specs.Answer.{result_of}
 use Rattle.rules.specs.Refusals.{passed, once, verdict, refused_at}
 use Rattle.rules.specs.Refused.{verdict_of}
 use Rattle.rules.specs.declared.refusal.Refusal.{Refusal}
-use Rattle.rules.specs.Query.{Query, start_arrival, first_distance, query_checks}
+use Rattle.rules.specs.Query.{Query, start_arrival, query_checks}
 use Rattle.rules.specs.Plan.{arrivals}
 use Rattle.rules.specs.Net.{no_distance, distance, FirstShortest, NoWalk, Remaining, no_walk, by_walk}
-use Rattle.rules.specs.Trip.{query_net, walk_reversals}
+use Rattle.rules.specs.Trip.{query_net, total, walk_reversals}
 use Rattle.rules.specs.Search.{refusal, Labelled, walk_checks, Answer, refused, no_route, unwritten, found}
 use Rattle.rules.proofs.Refused.{refusal_numbered}
 use Rattle.rules.proofs.Tests.{tests}
@@ -19,7 +19,6 @@ use Rattle.rules.proofs.Verdicts.{refuses_once, passes_once}
 use Rattle.rules.proofs.Walks.{remaining_unique}
 use Rattle.rules.proofs.Sound.{sound, label_length}
 use Rattle.rules.proofs.Trips.{start_inside, query_few_steps, total_below}
-use Rattle.rules.proofs.Lists.{any_default}
 use Rattle.distance.specs.Answer.{Labels}
 use Rattle.train.specs.Asked.{Accepted}
 
@@ -65,16 +64,12 @@ module _ (q : Query) (labels : List ℕ) {known : List ℕ} (ok : Accepted q (le
       none (by_walk bs s i) z = absurd (omega (arith, total_below (sound q (length labels) ok) bs s))
 
   module _ {walk : List ℕ} (first : FirstShortest (query_net q) (start_arrival q) walk) where
-    pub few : length walk < 2048
+    few : length walk < 2048
     few = query_few_steps (sound q (length labels) ok) walk first.shortest
 
     -- the start's label is the walk's distance
-    start_label : get_or known (start_arrival q) no_distance ≡ distance (query_net q) (start_arrival q) walk
+    pub start_label : get_or known (start_arrival q) no_distance ≡ distance (query_net q) (start_arrival q) walk
     start_label = remaining_unique start_remaining (by_walk walk first.shortest refl)
-
-    pub total_fits : first_distance q + get_or known (start_arrival q) 0 < no_distance
-    total_fits =
-        omega (arith, start_label, any_default known (start_arrival q) 0 no_distance start_there, total_below (sound q (length labels) ok) walk first.shortest)
 
     -- refusal 14
     pub no_room : (route : List ℕ) → length route < length walk
@@ -82,13 +77,6 @@ module _ (q : Query) (labels : List ℕ) {known : List ℕ} (ok : Accepted q (le
     no_room route l = unwritten walk (refused_at 14 0) ok first (walk_too_long route walk few l) (λ z. omega arith) refl
 
     -- success
-    pub handed_out : (route : List ℕ) {total reversals : ℕ} → length walk ≤ length route → total ≡ first_distance q + get_or known (start_arrival q) 0
-        → reversals ≡ walk_reversals q walk
-        → Answer q route labels (record {
-          numbers = record { refusal = 0; place = 0; total = total; reversals = reversals; steps = length walk };
-          route = walk ++ drop (length walk) route;
-          labels = known;
-        })
-    handed_out route l t e =
-        found walk known ok first (walk_fits route walk few l) labelled
-        (rw (t, e, any_default known (start_arrival q) 0 no_distance start_there, start_label) refl)
+    pub handed_out : (route : List ℕ) {r : Route} → length walk ≤ length route → r.total ≡ total q walk → r.reversals ≡ walk_reversals q walk
+        → r.steps ≡ length walk → Answer q route labels (result_of (Ok r) (walk ++ drop (length walk) route) known)
+    handed_out route l t e s = found walk known ok first (walk_fits route walk few l) labelled (rw (t, e, s) refl)

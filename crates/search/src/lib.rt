@@ -28,7 +28,7 @@ use rules::copy::copy_into;
 use rules::refusal::Refusal;
 use rules::route::Route;
 use solve::solve;
-use steps::Trip;
+use steps::{Trip, check_query};
 use train::Query;
 use turns::turn_table::turn_table;
 use write::write_walk;
@@ -58,11 +58,7 @@ pub fn search(query: &Query, route: &mut [u32], labels: &mut [u32]) -> Result<Ro
     ensures { Answer (query_lent query.now) route.old labels.old (result_of result route.new labels.new) }
 {
     let mut slots = [NO_SECTION; 2304];
-    query.plan.check_and_index(&mut slots)?;
-    query.check_train()?;
-    if labels.len() != 2 * (query.plan.sections.len() / 6) {
-        return Err(Refusal::Labels);
-    }
+    check_query(query, labels.len(), &mut slots)?;
     let turns = turn_table(&query.plan);
     let trip = Trip {
         query: *query,

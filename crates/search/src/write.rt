@@ -33,15 +33,8 @@ pub fn write_walk(
     if route.len() < walk.len() {
         return Err(Refusal::Buffer);
     }
-    let from = trip.query.start_arrival();
-    let total = trip.query.first_distance() + known[from];
-    let reversals = trip.count_reversals(from as u32, walk);
-    let steps = walk.len() as u32;
+    let numbers = trip.route(walk, known);
     copy_into(walk, &mut route[..walk.len()]);
     copy_into(known, labels);
-    Ok(Route {
-        total,
-        reversals,
-        steps,
-    })
+    Ok(numbers)
 }

@@ -1,29 +1,21 @@
 -- The answers of the sheet checker, one law for each of its ends.
 -- Assumes nothing.
-use Rattle.std.proofs.Common.{◌≡◌, ◌≢◌, ℕ, ◌+◌, ◌<◌, List, length, get_or, None, Some, Ok, Err, refl, arith}
-use Rattle.rules.specs.Query.{Query, start_arrival, first_distance, query_checks}
-use Rattle.rules.specs.Net.{no_distance, Walk, Shortest}
+use Rattle.std.proofs.Common.{◌≡◌, ◌≢◌, ℕ, List, length, get_or, None, Some, Ok, Err, refl, arith}
+use Rattle.rules.specs.Query.{Query, start_arrival, query_checks}
+use Rattle.rules.specs.Net.{no_distance, distance, Shortest}
 use Rattle.rules.specs.Trip.{query_net, total, walk_reversals}
 use Rattle.rules.specs.Refusals.{verdict}
 use Rattle.rules.specs.Refused.{verdict_of}
 use Rattle.rules.specs.Search.{refusal, success}
 use Rattle.rules.specs.Sheet.{Sheet, sheet_of, Claims, StartLabel, Accepted, SheetAnswer, refused, bad_claim, bad_label, bad_start, accepted}
 use Rattle.rules.specs.declared.refusal.Refusal.{Refusal}
+use Rattle.rules.specs.declared.route.Route.{Route}
 use Rattle.rules.specs.declared.refusal.Refusal.TheVariants.{Claim, Label, StartLabel as WrongStart}
-use Rattle.rules.proofs.Lists.{any_default}
 use Rattle.rules.proofs.Refused.{refusal_numbered}
-use Rattle.rules.proofs.Sound.{sound, label_length}
-use Rattle.rules.proofs.Trips.{start_inside, query_few_steps, total_below}
 use Rattle.rules.proofs.SheetAnswers.{accepted_walk}
 use Rattle.train.specs.Asked as asked
-use Rattle.train.proofs.Refusing.{plan_accepted}
-use Rattle.turns.specs.Tables.{Passes}
 use Rattle.sheet.specs.Checking.{SheetPasses, SheetChecked}
 use Rattle.sheet.specs.Answer.{Judges}
-
--- the tables of a query that is accepted are those of a plan that passes
-pub tables_pass : (q : Query) (n : ℕ) → asked.Accepted q n → Passes q.plan.sections q.plan.turns
-tables_pass q n ok = record { points = q.plan.points; passes = plan_accepted q n ok }
 
 module _ {q : Query} {h : Sheet} where
   -- refused by 1 to 11
@@ -44,12 +36,6 @@ module _ (q : Query) {claim : ℕ} {list labels : List ℕ} (ok : asked.Accepted
   pub none_accepted : claim ≡ 0 → Judges q (sheet_of claim list labels) (Ok None)
   none_accepted c = record { numbers = accepted ok P.claims P.rules P.start (Accepted.no_route c refl); claimed = c }
 
-  pub start_there : start_arrival q < length labels
-  start_there = omega (arith, start_inside (sound q (length labels) ok), label_length q (length labels) ok)
-
-  pub start_low : start_arrival q < 2048
-  start_low = let e = sound q (length labels) ok in omega (arith, start_inside e, e.plan.few_sections)
-
   module _ (d : claim ≢ 0) where
     walk_claimed : claim ≡ 1
     walk_claimed = go P.claims
@@ -61,26 +47,17 @@ module _ (q : Query) {claim : ℕ} {list labels : List ℕ} (ok : asked.Accepted
     answered : SheetAnswer q (sheet_of claim list labels) (success q list)
     answered = accepted ok P.claims P.rules P.start (Accepted.a_walk walk_claimed refl)
 
-    shortest : Shortest (query_net q) (start_arrival q) list
+    pub shortest : Shortest (query_net q) (start_arrival q) list
     shortest = accepted_walk answered refl walk_claimed
 
-    pub walk_walked : Walk (query_net q) (start_arrival q) list
-    walk_walked = shortest.walk
-
-    pub few : length list < 2048
-    few = query_few_steps (sound q (length labels) ok) list shortest
-
-    -- the total is the first distance and the start's label, and fits
-    total_there : first_distance q + get_or labels (start_arrival q) 0 ≡ total q list
-    total_there = rw (any_default labels (start_arrival q) 0 no_distance start_there) (go P.start)
+    -- the start's label is the walk's distance
+    pub start_label : get_or labels (start_arrival q) no_distance ≡ distance (query_net q) (start_arrival q) list
+    start_label = go P.start
       where
-        go : StartLabel q (sheet_of claim list labels) → first_distance q + get_or labels (start_arrival q) no_distance ≡ total q list
+        go : StartLabel q (sheet_of claim list labels) → get_or labels (start_arrival q) no_distance ≡ distance (query_net q) (start_arrival q) list
         go (StartLabel.no_route c l) = absurd (d c)
-        go (StartLabel.a_walk c l) = l
+        go (StartLabel.a_walk c l) = omega (arith, l)
 
-    pub total_fits : first_distance q + get_or labels (start_arrival q) 0 < no_distance
-    total_fits = omega (arith, total_there, total_below (sound q (length labels) ok) list shortest)
-
-    pub walk_accepted : {reversals : ℕ} → reversals ≡ walk_reversals q list
-        → Judges q (sheet_of claim list labels) (Ok (Some (record { total = first_distance q + get_or labels (start_arrival q) 0; reversals = reversals; steps = length list })))
-    walk_accepted e = record { numbers = rw (e, total_there) answered; claimed = walk_claimed }
+    pub walk_accepted : {r : Route} → r.total ≡ total q list → r.reversals ≡ walk_reversals q list → r.steps ≡ length list
+        → Judges q (sheet_of claim list labels) (Ok (Some r))
+    walk_accepted t e s = record { numbers = rw (t, e, s) answered; claimed = walk_claimed }

@@ -19,14 +19,14 @@ fn start_due(net: &NetTable, from: usize, sheet: &Sheet) -> Option<usize>
     requires { from < length net.now.rows.now }
     ensures { (q : Query) → Prepared q net.now from → DueLabel q (sheet_lent sheet.now) result }
 {
-    if sheet.claim == 0 && sheet.list.is_empty() {
-        return Some(NO_DISTANCE as usize);
+    match sheet.claim {
+        0 if sheet.list.is_empty() => Some(NO_DISTANCE as usize),
+        1 => {
+            let sum = follow(net, from, sheet.list)?;
+            Some(sum as usize + net.room as usize)
+        }
+        _ => None,
     }
-    if sheet.claim != 1 {
-        return None;
-    }
-    let sum = follow(net, from, sheet.list)?;
-    Some(sum as usize + net.room as usize)
 }
 
 // Refusals 18 and 19, where the label of the arrival `from` has to be the number due.

@@ -22,12 +22,13 @@ ghost use Rattle.sheet.specs.Answer.{Judges};
 use plan::slots::NO_SECTION;
 use rules::refusal::Refusal;
 use rules::route::Route;
-use steps::Trip;
+use steps::{Trip, check_query};
 use tables::check_over_steps;
 use train::Query;
 use turns::turn_table::turn_table;
 
-// A sheet as it is lent: the claim (0 no route, 1 walk), the list of arrivals, and a label for each arrival of the plan.
+// A sheet as it is lent: the claim (0 no route, 1 walk), the list of arrivals, and a label for each arrival of the plan. The claim is any
+// number, since it comes through the C interface.
 #[derive(Clone, Copy)]
 pub struct Sheet<'a> {
     pub claim: u32,
@@ -44,15 +45,7 @@ fn accept(trip: &Trip, sheet: &Sheet) -> Option<Route>
     if sheet.claim == 0 {
         return None;
     }
-    let from = trip.query.start_arrival();
-    let total = trip.query.first_distance() + sheet.labels[from];
-    let reversals = trip.count_reversals(from as u32, sheet.list);
-    let steps = sheet.list.len() as u32;
-    Some(Route {
-        total,
-        reversals,
-        steps,
-    })
+    Some(trip.route(sheet.list, sheet.labels))
 }
 
 // Judges a sheet of a query: any numbers, any lengths of the tables, of the list and of the labels. An accepted list is answered by its
@@ -62,11 +55,7 @@ pub fn check_sheet(query: &Query, sheet: &Sheet) -> Result<Option<Route>, Refusa
     ensures { Judges (query_lent query.now) (sheet_lent sheet.now) result }
 {
     let mut slots = [NO_SECTION; 2304];
-    query.plan.check_and_index(&mut slots)?;
-    query.check_train()?;
-    if sheet.labels.len() != 2 * query.plan.section_count() as usize {
-        return Err(Refusal::Labels);
-    }
+    check_query(query, sheet.labels.len(), &mut slots)?;
     let turns = turn_table(&query.plan);
     let trip = Trip {
         query: *query,

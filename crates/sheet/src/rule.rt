@@ -27,8 +27,9 @@ fn end_kept(row: &Row, room: u32, before: u32) -> bool
 fn step_kept(step: &Step, labels: &[u32], before: u32) -> bool
     ensures { (result ≡ true) ↔ StepKept step.now labels.now before }
 {
-    let b = step.next as usize;
-    b >= labels.len() || at_most(before, step.cost, labels[b])
+    labels
+        .get(step.next as usize)
+        .is_none_or(|after| at_most(before, step.cost, *after))
 }
 
 // The rules at arrival a.

@@ -4,6 +4,7 @@
 ghost use Rattle.std.specs.Prelude.{◌<◌};
 
 use plan::Plan;
+use rules::NO_DISTANCE;
 use rules::route::Route;
 use search::search;
 use sheet::{Sheet, check_sheet};
@@ -16,10 +17,19 @@ const SECTIONS: [u32; 30] = [
     1300, 3, 5, 2500, 1, 2500, 2500,
 ];
 
-const NONE: u32 = 4294967295;
-
 // The remaining distances on the way from (3, 0) to (4, 0), for a train of 600.
-const LABELS: [u32; 10] = [NONE, 3000, 3600, NONE, NONE, 2500, 4000, NONE, NONE, NONE];
+const LABELS: [u32; 10] = [
+    NO_DISTANCE,
+    3000,
+    3600,
+    NO_DISTANCE,
+    NO_DISTANCE,
+    2500,
+    4000,
+    NO_DISTANCE,
+    NO_DISTANCE,
+    NO_DISTANCE,
+];
 
 // What is said of an accepted "no route".
 const NO_ROUTE: Route = Route {

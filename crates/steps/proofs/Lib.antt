@@ -9,3 +9,5 @@ pub mod Marking
 pub mod NoEnds
 pub mod Serving
 pub mod Reversing
+pub mod Routing
+pub mod AnyQuery

@@ -9,7 +9,7 @@ ghost use Rattle.steps.specs.StepTable.{Ends, SameSteps};
 ghost use Rattle.steps.specs.Ending.{EndMark};
 
 use crate::trip::Trip;
-use plan::slots::{NO_SECTION, slot_at};
+use plan::slots::NO_SECTION;
 use rules::net::Row;
 
 impl Trip<'_> {
@@ -17,7 +17,7 @@ impl Trip<'_> {
     fn ends_at(&self, goal: u32, a: u32) -> bool
         ensures { EndMark self.now.query.plan.sections.now self.now.query.finish goal a result }
     {
-        a / 2 != self.query.finish && self.query.plan.number(a / 2, a % 2) == goal
+        a / 2 != self.query.finish && self.query.plan.to_point(a) == goal
     }
 
     // Marks the arrivals at which a walk may end, in the front of the rows, and leaves the steps as they are.
@@ -28,6 +28,7 @@ impl Trip<'_> {
         ensures kept { SameSteps rows.old rows.new }
     {
         let goal = self.query.plan.number(self.query.finish, self.query.enter);
+        // By index, as the rows are filled (fill.rt).
         for a in 0..2 * self.query.plan.section_count() {
             rows[a as usize].ends = self.ends_at(goal, a);
         }
@@ -41,6 +42,6 @@ impl Trip<'_> {
         ensures { result ≡ false → (a : ℕ) → Finish (trip_of (query_lent self.now.query)) a → ⊥ }
     {
         let goal = self.query.plan.number(self.query.finish, self.query.enter);
-        slot_at(self.slots, goal, 1) != NO_SECTION
+        self.yard().slot_at(goal, 1) != NO_SECTION
     }
 }

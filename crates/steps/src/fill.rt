@@ -20,6 +20,7 @@ impl Trip<'_> {
         ensures { StepTable (trip_of (query_lent self.now.query)) rows.new }
     {
         let served = self.served();
+        // By index: `iter_mut().enumerate()` would ask for a slice of the rows and a cast of each number, and is no plainer.
         for a in 0..2 * self.query.plan.section_count() {
             rows[a as usize] = self.row_at(&served, a);
         }

@@ -17,7 +17,7 @@ impl Trip<'_> {
         requires link { Link self.now.query.plan.sections.now a b }
         ensures { result ≡ forbidden (plan_lent self.now.query.plan) (a / 2) (b / 2) }
     {
-        let p = self.query.plan.number(a / 2, a % 2);
+        let p = self.query.plan.to_point(a);
         self.yard().is_forbidden(p, a / 2, b / 2)
     }
 

@@ -23,12 +23,13 @@ impl Trip<'_> {
         ensures { StepsFrom (rules_trip self.now) a result }
     {
         let c = a / 2;
-        let p = self.query.plan.number(c, a % 2);
+        let p = self.query.plan.to_point(a);
         let x = slot_at(self.slots, p, 0);
         let y = slot_at(self.slots, p, 1);
         let z = slot_at(self.slots, p, 2);
         let low = other_than(c, x, y);
         let high = other_than(c, z, y);
+        // A row keeps no options: what reads one asks whether its step leads to an arrival anyway, and an Option would make rows of 28 bytes of 20.
         let first = self.step_over(served, a, p, low).unwrap_or(Step::NONE);
         let second = self.step_over(served, a, p, high).unwrap_or(Step::NONE);
         Row {

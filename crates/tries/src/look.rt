@@ -6,17 +6,18 @@ ghost use Rattle.tries.specs.Serves.{LookedFor};
 use crate::marks::Try;
 use turns::Serving;
 
-// Shut: no train gets further on it than this length. Met: its far point is this one, which has a mark, so none gets further than its
-// length. Last: it takes what is left. On: the train goes on to this far point, over this length.
+// Shut: no train gets further on it than this length. Met: its far point has a mark, so none gets further than its length. Last: it takes
+// what is left. On: the train goes on to its far point, over its length.
 #[derive(Clone, Copy, Debug, PartialEq, Eq)]
 pub enum Look {
     Shut(u32),
-    Met(u32, u32),
+    Met { point: u32, length: u32 },
     Last,
-    On(u32, u32),
+    On { point: u32, length: u32 },
 }
 
-// The look at section e by a try that has come over section h to p.
+// The look at section e by a try that has come over section h to p. It makes the tests of reversal's `glance`, but a try must know why a
+// section is shut and how far it gets there, where a glance is for what costs little.
 pub(crate) fn look_at(serving: &Serving, t: &Try, h: u32, p: u32, e: u32) -> Look
     requires ready { Ready serving.now.yard.now }
     requires arrived { Arrived serving.now.yard.now.plan.sections.now h p }
@@ -34,9 +35,9 @@ pub(crate) fn look_at(serving: &Serving, t: &Try, h: u32, p: u32, e: u32) -> Loo
     if !plan.is_free(e) {
         return Look::Shut(length);
     }
-    let q = plan.far_end(e, p);
-    if t.marks.has(q) {
-        return Look::Met(q, length);
+    let point = plan.far_end(e, p);
+    if t.marks.has(point) {
+        return Look::Met { point, length };
     }
-    Look::On(q, length)
+    Look::On { point, length }
 }

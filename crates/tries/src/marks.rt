@@ -4,6 +4,7 @@ ghost use Rattle.tries.specs.Marks.{Begun};
 
 use points::Points;
 
+// It goes along with each step of a try as a copy, so that a try that comes back has nothing to undo.
 #[derive(Clone, Copy)]
 pub struct Try {
     pub(crate) marks: Points,

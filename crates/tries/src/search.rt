@@ -51,8 +51,8 @@ impl Search<'_> {
             return Err(most);
         }
         let mut most = 0;
-        for j in 0..3 {
-            let e = self.serving.yard.slot_at(p, j);
+        let slots = self.serving.yard.slots_of(p);
+        for &e in slots {
             match self.try_section(why, t, h, p, e, d) {
                 Ok(end) => return Ok(end),
                 Err(n) => most = most.max(n),
@@ -87,28 +87,28 @@ impl Search<'_> {
     {
         match look_at(self.serving, &t, h, p, e) {
             Look::Shut(n) => Err(n),
-            Look::Met(q, n) => {
-                why.put(q);
-                Err(n)
+            Look::Met { point, length } => {
+                why.put(point);
+                Err(length)
             }
             Look::Last => {
                 self.out[d] = e;
                 Ok(d + 1)
             }
-            Look::On(q, n) => {
-                t.marks.put(q);
-                t.left -= n;
+            Look::On { point, length } => {
+                t.marks.put(point);
+                t.left -= length;
                 let mut beyond = Points::none();
-                match self.try_point(&mut beyond, t, e, q, d + 1) {
+                match self.try_point(&mut beyond, t, e, point, d + 1) {
                     Ok(end) => {
                         self.out[d] = e;
                         Ok(end)
                     }
                     Err(most) => {
-                        // the try's own mark at q is no reason for what lies before q
-                        beyond.take(q);
+                        // the try's own mark at its point is no reason for what lies before it
+                        beyond.take(point);
                         why.add(&beyond);
-                        Err(n + most)
+                        Err(length + most)
                     }
                 }
             }

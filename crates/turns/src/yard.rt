@@ -1,9 +1,9 @@
 // A checked plan with what is known of its points.
-ghost use Rattle.std.specs.Prelude.{◌≡◌, ◌<◌, get_or, ◌+◌, ◌*◌};
+ghost use Rattle.std.specs.Prelude.{◌≡◌, ℕ, ◌<◌, length, get_or, ◌+◌, ◌*◌};
 ghost use Rattle.turns.specs.Tables.{forbidden_by};
 
 use plan::Plan;
-use plan::slots::slot_at;
+use plan::slots::{slot_at, slots_of};
 
 // A forbidden turn, by its two sections. It holds both ways.
 #[derive(Clone, Copy, Debug, PartialEq, Eq)]
@@ -21,6 +21,15 @@ pub struct Yard<'a> {
 }
 
 impl Yard<'_> {
+    // The three slots of point p.
+    pub fn slots_of(&self, p: u32) -> &[u32]
+        requires { p < 768 }
+        ensures long { length result.now ≡ 3 }
+        ensures each { (j : ℕ) → j < 3 → get_or result.now j 0 ≡ get_or self.now.slots.now (3 * p + j) 0 }
+    {
+        slots_of(self.slots, p)
+    }
+
     // What stands in slot j of point p.
     pub fn slot_at(&self, p: u32, j: u32) -> u32
         requires point { p < 768 }

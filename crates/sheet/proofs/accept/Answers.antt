@@ -1,29 +1,26 @@
--- `accept` meets its contract: an accepted list is shortest, so its numbers fit.
+-- `accept` meets its contract: an accepted list is shortest, and the start's label is its distance.
 -- Assumes nothing.
-use Rattle.std.proofs.Common.{arith}
+use Rattle.std.proofs.Common.{length}
+use Rattle.rules.proofs.Sound.{label_length}
 use Rattle.train.specs.Asked.{query_lent}
-use Rattle.steps.proofs.Reversing.{walk_linked}
-use Rattle.sheet.proofs.Answering.{start_there, walk_walked, few, total_fits, walk_accepted}
+use Rattle.steps.proofs.Routing.{ready}
+use Rattle.sheet.proofs.Answering.{shortest, start_label, walk_accepted}
 use Rattle.sheet.proofs.accept.Goals as goal
 
-pub bounds-sheet-from : goal.bounds-sheet-from
-bounds-sheet-from c = let s = c in rw s.start_arrival-from.ensures (start_there (query_lent s.args.trip.now.query) s.requires.ready.accepted s.requires.passes)
+pub route-requires-clause-ready : goal.route-requires-clause-ready
+route-requires-clause-ready c =
+    ready c.args.trip.now (length c.args.sheet.now.labels.now) c.requires.ready.accepted c.requires.ready.tables
 
-pub overflow_add-total : goal.overflow_add-total
-overflow_add-total c =
-    rw (c.first_distance.ensures, c.start_arrival-from.ensures) (omega (arith, total_fits (query_lent c.args.trip.now.query) c.requires.ready.accepted c.requires.passes c.if-sheet-eq0.false))
+pub route-requires-clause-one_each : goal.route-requires-clause-one_each
+route-requires-clause-one_each c = label_length (query_lent c.args.trip.now.query) (length c.args.sheet.now.labels.now) c.requires.ready.accepted
 
-pub count_reversals-reversals-requires-clause-few : goal.count_reversals-reversals-requires-clause-few
-count_reversals-reversals-requires-clause-few c = omega (arith, few (query_lent c.args.trip.now.query) c.requires.ready.accepted c.requires.passes c.if-sheet-eq0.false)
+pub route-requires-clause-shortest : goal.route-requires-clause-shortest
+route-requires-clause-shortest c = shortest (query_lent c.args.trip.now.query) c.requires.ready.accepted c.requires.passes c.if-sheet-eq0.false
 
-pub count_reversals-reversals-requires-clause-linked : goal.count_reversals-reversals-requires-clause-linked
-count_reversals-reversals-requires-clause-linked c =
-    rw c.start_arrival-from.ensures (walk_linked (walk_walked (query_lent c.args.trip.now.query) c.requires.ready.accepted c.requires.passes c.if-sheet-eq0.false))
-
-pub overflow_cast-steps : goal.overflow_cast-steps
-overflow_cast-steps c = omega (arith, few (query_lent c.args.trip.now.query) c.requires.ready.accepted c.requires.passes c.if-sheet-eq0.false)
+pub route-requires-clause-label : goal.route-requires-clause-label
+route-requires-clause-label c = start_label (query_lent c.args.trip.now.query) c.requires.ready.accepted c.requires.passes c.if-sheet-eq0.false
 
 pub returns : goal.returns
 returns c =
-    let from = c.start_arrival-from.ensures in
-    rw (c.first_distance.ensures, from) (walk_accepted (query_lent c.args.trip.now.query) c.requires.ready.accepted c.requires.passes c.if-sheet-eq0.false (rw from at c.count_reversals-reversals.ensures))
+    let numbers = c.route.ensures in
+    walk_accepted (query_lent c.args.trip.now.query) c.requires.ready.accepted c.requires.passes c.if-sheet-eq0.false numbers.total numbers.reversals numbers.steps

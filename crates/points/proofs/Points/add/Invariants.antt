@@ -8,6 +8,6 @@ use Rattle.points.proofs.Points.add.Given as goal
 
 abbrev pub invariant-loop-i : goal.invariant-loop-i
 invariant-loop-i l = record {
-  done : (j : ℕ) → j < l.i → get_or l.word-items j 0 ≡ bit_or (get_or l.initial.word-items j 0) (get_or l.more-2.words j 0);
+  done : (j : ℕ) → j < l.i → get_or l.word-items j 0 ≡ bit_or (get_or l.initial.word-items j 0) (get_or l.more.words j 0);
   others : (j : ℕ) → l.i ≤ j → get_or l.word-items j 0 ≡ get_or l.initial.word-items j 0;
 }

@@ -1,4 +1,4 @@
--- The guesses at the slots before j have missed. The measure of a section's guess is twice the budget, that of a point's guess one more: a point
+-- The guesses at the slots before e's have missed. The measure of a section's guess is twice the budget, that of a point's guess one more: a point
 -- hands on what it has left, a section one less.
 -- Assumes nothing.
 use Rattle.std.proofs.Common.{◌+◌}
@@ -12,5 +12,5 @@ decreases-guess_point l = l.budget + l.budget + 1
 abbrev pub decreases-guess_section : goal.decreases-guess_section
 decreases-guess_section l = l.budget + l.budget
 
-abbrev pub invariant-guess_point-loop-j : goal.invariant-guess_point-loop-j
-invariant-guess_point-loop-j l = MissedTo (TakesFrom l.serving l.from) l.serving.yard.now.slots.now l.from.at l.budget l.left l.j
+abbrev pub invariant-guess_point-loop-e : goal.invariant-guess_point-loop-e
+invariant-guess_point-loop-e l = MissedTo (TakesFrom l.serving l.from) l.serving.yard.now.slots.now l.from.at l.budget l.left l.e-index

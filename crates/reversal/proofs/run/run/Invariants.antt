@@ -5,4 +5,4 @@ use Rattle.reversal.proofs.Running.{Running}
 use Rattle.reversal.proofs.run.run.Given as goal
 
 abbrev pub invariant-loop-i : goal.invariant-loop-i
-invariant-loop-i g l = Running l.serving l.length l.p (points_of l.passed) l.train
+invariant-loop-i g l = Running l.serving l.start.left l.start.at (points_of l.passed) l.train

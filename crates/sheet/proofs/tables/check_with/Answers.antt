@@ -4,13 +4,13 @@ use Rattle.std.proofs.Common.{length, arith}
 use Rattle.rules.proofs.Sound.{sound, label_length}
 use Rattle.rules.proofs.Trips.{start_inside}
 use Rattle.train.specs.Asked.{query_lent}
+use Rattle.steps.proofs.Routing.{ready}
 use Rattle.sheet.proofs.Checking.{listing_prepared}
 use Rattle.sheet.proofs.tables.check_with.Goals as goal
 
 pub list_steps-requires-clause-ready : goal.list_steps-requires-clause-ready
 list_steps-requires-clause-ready c =
-    let ready = c.requires.ready in
-    record { sound = sound (query_lent c.args.trip.now.query) (length c.args.sheet.now.labels.now) ready.accepted; tables = ready.tables }
+    ready c.args.trip.now (length c.args.sheet.now.labels.now) c.requires.ready.accepted c.requires.ready.tables
 
 pub list_steps-requires-clause-long : goal.list_steps-requires-clause-long
 list_steps-requires-clause-long c =

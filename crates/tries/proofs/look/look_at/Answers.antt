@@ -20,14 +20,14 @@ returns-then-not-is_free c =
 pub has-requires : goal.has-requires
 has-requires c =
     let enters = looked_in c.args.serving.now c.args.t.now c.args.h c.args.p c.args.e c.may_enter.ensures c.if-not-may_enter.false in
-    omega (arith, c.far_end-q.ensures, far_low c.requires.ready.checked c.args.e c.args.p enters.inside)
+    omega (arith, c.far_end-point.ensures, far_low c.requires.ready.checked c.args.e c.args.p enters.inside)
 
 pub returns-then-has : goal.returns-then-has
 returns-then-has c =
     let enters = looked_in c.args.serving.now c.args.t.now c.args.h c.args.p c.args.e c.may_enter.ensures c.if-not-may_enter.false in
-    passed_before c.args.serving.now c.args.t.now c.args.h c.args.p c.args.e c.free_from-length.ensures c.if-t-length.false c.requires.ready.checked enters c.far_end-q.ensures c.has.ensures c.if-has.true
+    passed_before c.args.serving.now c.args.t.now c.args.h c.args.p c.args.e c.free_from-length.ensures c.if-t-length.false c.requires.ready.checked enters c.far_end-point.ensures c.has.ensures c.if-has.true
 
 pub returns : goal.returns
 returns c =
     let enters = looked_in c.args.serving.now c.args.t.now c.args.h c.args.p c.args.e c.may_enter.ensures c.if-not-may_enter.false in
-    goes_on c.args.serving.now c.args.t.now c.args.h c.args.p c.args.e c.free_from-length.ensures c.if-t-length.false enters c.is_free.ensures c.if-not-is_free.false c.far_end-q.ensures c.has.ensures c.if-has.false
+    goes_on c.args.serving.now c.args.t.now c.args.h c.args.p c.args.e c.free_from-length.ensures c.if-t-length.false enters c.is_free.ensures c.if-not-is_free.false c.far_end-point.ensures c.has.ensures c.if-has.false

@@ -10,5 +10,5 @@ use Rattle.steps.proofs.trip.Trip.has_end.Goals as goal
 pub returns : goal.returns
 returns c =
     λ z a w. none_other c.requires.indexed c.args.self.now.query.finish c.args.self.now.query.enter c.requires.finish c.requires.enter c.number-goal.ensures
-    c.slot_at.ensures (eqb→eq c.slot_at.result 4294967295 (says_true (eqb c.slot_at.result 4294967295) (not-false (eqb c.slot_at.result 4294967295) z) refl))
+    (rw c.yard.ensures.slots at c.slot_at.ensures) (eqb→eq c.slot_at.result 4294967295 (says_true (eqb c.slot_at.result 4294967295) (not-false (eqb c.slot_at.result 4294967295) z) refl))
     a w.inside (w.point ∙ sym c.number-goal.ensures) w.over

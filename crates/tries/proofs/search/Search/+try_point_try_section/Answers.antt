@@ -23,33 +23,35 @@ try_point-returns-in-Some t c =
       taught = recalled_lessons c.requires.taught c.recall.ensures;
     }
 
-pub try_point-slot_at-e-requires-clause-point : goal.try_point-slot_at-e-requires-clause-point
-try_point-slot_at-e-requires-clause-point t c = arrived_low c.requires.ready.checked c.requires.arrived
+pub try_point-slots_of-slots-requires : goal.try_point-slots_of-slots-requires
+try_point-slots_of-slots-requires t c = arrived_low c.requires.ready.checked c.requires.arrived
 
 pub try_point-returns-in-Ok-clause-tried : goal.try_point-returns-in-Ok-clause-tried
 try_point-returns-in-Ok-clause-tried t c =
-    let loop = c.loop-j.invariant in
+    let loop = c.loop-e.invariant in
+    let slots = c.slots_of-slots.ensures in
     let serving = c.args.self.now.serving.now in
     point_found c.requires.ready c.requires.arrived serving.from serving.onto c.args.t
-    (fails_vain serving.yard.now.slots.now loop.fails) loop.untouched (rw loop.same.serving at c.slot_at-e.ensures)
+    (fails_vain serving.yard.now.slots.now loop.fails) loop.untouched (slots.each c.loop-e.e-index (omega (arith, slots.long)))
     (rw loop.same.serving at c.in-Ok.ensures.tried) refl
 
-pub try_point-loop-j-preserved : goal.try_point-loop-j-preserved
-try_point-loop-j-preserved t c =
-    let loop = c.loop-j.invariant in
+pub try_point-loop-e-preserved : goal.try_point-loop-e-preserved
+try_point-loop-e-preserved t c =
+    let loop = c.loop-e.invariant in
+    let slots = c.slots_of-slots.ensures in
     let told = c.in-Err.ensures in
     record {
       same = search rules;
       untouched = missed told.tried refl ∙ loop.untouched;
       taught = rw loop.same.serving at told.taught;
-      fails = fails_more c.args.self.now.serving.now.yard.now.slots.now loop.fails (rw loop.same.serving at c.slot_at-e.ensures)
+      fails = fails_more c.args.self.now.serving.now.yard.now.slots.now loop.fails (slots.each c.loop-e.e-index (omega (arith, slots.long)))
           (rw loop.same.serving at told.fails) (grind (arith, common_steps));
     }
 
 pub try_point-returns : goal.try_point-returns
 try_point-returns t c =
-    let loop = c.loop-j.invariant in
-    let fails = fails_all c.args.self.now.serving.now.yard.now.slots.now c.requires.ready loop.fails (omega (arith, c.loop-j-test.false)) in
+    let loop = c.loop-e.invariant in
+    let fails = fails_all c.args.self.now.serving.now.yard.now.slots.now c.requires.ready loop.fails (omega (arith, c.loop-e-test.false, c.slots_of-slots.ensures.long)) in
     record {
       same = search rules;
       tried = none _ refl loop.untouched (point_vain fails);
@@ -64,7 +66,7 @@ pub try_section-try_point-requires : goal.try_section-try_point-requires
 try_section-try_point-requires t c =
     let known = c.requires in
     let on = c.in-On.ensures in
-    let gone = past c.args.t c.put-in-On.new.self c.in-On.n (on_low on known.ready.checked) on.new c.put-in-On.ensures in
+    let gone = past c.args.t c.put-in-On.new.self c.in-On.length (on_low on known.ready.checked) on.new c.put-in-On.ensures in
     (omega (arith, c.decreases, gone.fewer), (known.ready, (known.long, (on_arrived on, (known.taught, (c.none-beyond.ensures, (omega (arith, on_fits on), omega (arith, known.room, gone.fewer))))))))
 
 pub try_section-take-requires : goal.try_section-take-requires

@@ -14,10 +14,10 @@ decreases-try_point l = unmarked l.t + unmarked l.t + 1
 abbrev pub decreases-try_section : goal.decreases-try_section
 decreases-try_section l = unmarked l.t + unmarked l.t
 
-abbrev pub invariant-try_point-loop-j : goal.invariant-try_point-loop-j
-invariant-try_point-loop-j l = record {
+abbrev pub invariant-try_point-loop-e : goal.invariant-try_point-loop-e
+invariant-try_point-loop-e l = record {
   same : SameLent l.initial.self l.self;
   untouched : l.self.out.now ≡ l.initial.self.out.now;
   taught : Taught l.initial.self.serving.now l.self.memo.now;
-  fails : FailsFor l.initial.self.serving.now l.t l.h l.p (Before l.initial.self.serving.now.yard.now.slots.now l.p l.j) l.initial.why l.why l.most;
+  fails : FailsFor l.initial.self.serving.now l.t l.h l.p (Before l.initial.self.serving.now.yard.now.slots.now l.p l.e-index) l.initial.why l.why l.most;
 }
