@@ -15,8 +15,9 @@ use Rattle.rules.proofs.Refused.{refusal_numbered}
 use Rattle.rules.proofs.Tests.{tests, not_not_iff, and_T, gives_true}
 use Rattle.rules.proofs.Verdicts.{refused_first, passed_first, passes, passes_both}
 use Rattle.turns.specs.Tables.{Arrived}
+use Rattle.turns.proofs.Entering.{comes}
 use Rattle.tries.specs.Searched.{Searched, none_there, first_there}
-use Rattle.pullout.proofs.Asking.{met, both_there, comes}
+use Rattle.pullout.proofs.Asking.{met, both_there}
 
 -- the rows after the plan's: refusals 7 and 15
 abbrev own_checks : Reversal → List Check

@@ -4,21 +4,21 @@ use mathlib.Core.Path.{◌≡◌, sym, ◌∙◌}
 use mathlib.Core.Logic.{◌≢◌, ⊎_elim}
 use mathlib.Core.Bool.{Bool, true, false, ◌&&◌}
 use mathlib.Core.List.{List}
-use Prim.Native.Nat.{ℕ, ◌*◌, ◌/◌, ◌%◌, ◌<◌}
+use Prim.Native.Nat.{ℕ, ◌*◌, ◌/◌, ◌<◌}
 use native.Mathlib.Omega.{arith}
-use lib.Dec.{T, eqb, eqb_refl, ltb, ltb→lt}
-use Rattle.rules.specs.Plan.{plan_of, of_sections, section_count, turn_count, end_A, end_B, field, touches, arrivals, to_point, forbidden}
+use lib.Dec.{T, ltb, ltb→lt}
+use Rattle.rules.specs.Plan.{plan_of, of_sections, section_count, turn_count, touches, arrivals, to_point, forbidden}
 use Rattle.rules.specs.PullAnswer.{reversal_of, turn_asked}
-use Rattle.rules.proofs.Tests.{and_T, T_or_left, T_or_right, gives_false}
+use Rattle.rules.proofs.Tests.{and_T, gives_false}
 use Rattle.rules.proofs.Ranges.{some_T}
 use Rattle.rules.proofs.Branches.{and_on}
-use Rattle.rules.proofs.Sound.{sound_plan, at_both_ends}
+use Rattle.rules.proofs.Sound.{sound_plan}
 use Rattle.rules.proofs.TurnPoints.{is_turn, turn_cases}
 use Rattle.std.proofs.Common.{Option}
 use Rattle.turns.specs.declared.yard.Turn.{Turn}
 use Rattle.turns.specs.Tables.{Passes, TurnTable, forbidden_by, Arrived}
 use Rattle.turns.proofs.TurnsByPoint.{by_table}
-use Rattle.turns.proofs.Entering.{arrived_low}
+use Rattle.turns.proofs.Entering.{arrived_low, comes}
 
 -- there are such an arrival and such a section, and they meet
 abbrev pub met : List ℕ → ℕ → ℕ → Bool
@@ -32,21 +32,6 @@ module _ (ss : List ℕ) (a s : ℕ) where
       let u = and_T (ltb a (2 * n)) (ltb s n) t.0 in
       let h = ltb→lt a (2 * n) u.0 in
       (omega arith, record { inside = ltb→lt s n u.1; touch = t.1 })
-
--- the section of an arrival has the arrival's point for an end
-pub comes : (ss : List ℕ) (a : ℕ) → a / 2 < section_count (of_sections ss) → Arrived ss (a / 2) (to_point (of_sections ss) a)
-comes ss a l =
-    record {
-      inside = l;
-      touch = at_both_ends (λ e. T (touches (of_sections ss) (a / 2) (field (of_sections ss) (a / 2) e)))
-          (T_or_left (eqb x x) (eqb z x) (eqb_refl x)) (T_or_right (eqb x z) (eqb z z) (eqb_refl z)) (a % 2) (omega arith);
-    }
-  where
-    x : ℕ
-    x = end_A (of_sections ss) (a / 2)
-
-    z : ℕ
-    z = end_B (of_sections ss) (a / 2)
 
 module _ {ss ts : List ℕ} (a s : ℕ) (ok : Passes ss ts) (m : true ≡ met ss a s) where
   pub asked_low : to_point (of_sections ss) a < 768
