@@ -37,6 +37,17 @@ impl Plan<'_> {
             place(slots, &mut filled, b, s);
         }
     }
+
+    // The sections at each point, where no point has over three.
+    pub fn index(&self) -> [u32; 2304]
+        requires joined { Joined self.now.sections.now }
+        requires three { AtMostThree self.now.sections.now }
+        ensures { Slots self.now.sections.now result }
+    {
+        let mut slots = [NO_SECTION; 2304];
+        self.index_into(&mut slots);
+        slots
+    }
 }
 
 // The three slots of point p.
