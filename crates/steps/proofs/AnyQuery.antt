@@ -5,7 +5,7 @@
 use Rattle.std.proofs.Common.{◌≡◌, ℕ, ◌+◌, List, [], ◌∷◌, cond, refl, ap}
 use Rattle.rules.specs.Plan.{plan_of}
 use Rattle.rules.specs.Query.{query_of}
-use Rattle.rules.specs.Trip.{Trip, Step, Finish, reverses, reversals, trip_of}
+use Rattle.rules.specs.Trip.{Step, Finish, reverses, reversals, trip_of}
 use Rattle.rules.specs.declared.net.Row.{Row}
 use Rattle.rules.proofs.AnyPoints.{pull_points}
 use Rattle.steps.specs.StepTable.{StepTable, Ends, EndAt, may_end, goes_on}

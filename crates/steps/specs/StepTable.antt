@@ -35,6 +35,10 @@ pub data EndAt (t : Trip) (table : List Row) (a : ℕ) : Type 0 where
 pub record Ends (t : Trip) (table : List Row) : Type 0 where
   pub at : (a : ℕ) → a < arrivals t.plan → EndAt t table a
 
+-- a walk may end by the one table where it may by the other
+pub record SameEnds (before after : List Row) : Type 0 where
+  pub same : (a : ℕ) → (row_at after a).ends ≡ (row_at before a).ends
+
 -- the steps in the one table are those in the other
 pub record SameSteps (before after : List Row) : Type 0 where
   pub first : (a : ℕ) → (row_at after a).first ≡ (row_at before a).first

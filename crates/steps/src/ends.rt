@@ -28,9 +28,10 @@ impl Trip<'_> {
         ensures kept { SameSteps rows.old rows.new }
     {
         let goal = self.query.plan.number(self.query.finish, self.query.enter);
-        // By index, as the rows are filled (fill.rt).
-        for a in 0..2 * self.query.plan.section_count() {
-            rows[a as usize].ends = self.ends_at(goal, a);
+        // By index, as the rows are filled (fill.rt), and section by section, so that the compiler reads both ends of a section by one test.
+        for s in 0..self.query.plan.section_count() {
+            rows[2 * s as usize].ends = self.ends_at(goal, 2 * s);
+            rows[2 * s as usize + 1].ends = self.ends_at(goal, 2 * s + 1);
         }
     }
 

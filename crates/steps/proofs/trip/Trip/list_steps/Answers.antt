@@ -6,7 +6,7 @@ use Rattle.steps.proofs.trip.Trip.list_steps.Goals as goal
 
 pub returns : goal.returns
 returns c = record {
-  steps = kept_table c.fill_ends.ensures.kept c.fill_steps.ensures;
+  steps = kept_table c.fill_ends.ensures.kept c.fill_steps.ensures.steps;
   endings = c.fill_ends.ensures.ends;
   long = omega arith;
 }
