@@ -47,6 +47,7 @@ impl<const L: usize> Queue<L> {
     pub(crate) fn new() -> Self
         requires has_heads { ARRIVALS ≤ L }
         requires few { L ≤ 65536 }
+        ensures { result.came ≡ 0 }
     {
         Queue {
             nodes: [Node::ALONE; L],
@@ -74,13 +75,16 @@ impl<const L: usize> Queue<L> {
     fn join(&mut self, x: usize, y: usize)
         requires x_in_bounds { x < L }
         requires y_in_bounds { y < L }
+        ensures { self.new.came ≡ self.old.came }
     {
         self.nodes[x].after = y as u16;
         self.nodes[y].before = x as u16;
     }
 
     // Makes every ring empty: its head alone.
-    pub(crate) fn empty_rings(&mut self) {
+    pub(crate) fn empty_rings(&mut self)
+        ensures { self.new.came ≡ self.old.came }
+    {
         for head in 1..ARRIVALS {
             self.join(head, head);
         }
@@ -105,6 +109,7 @@ impl<const L: usize> Queue<L> {
     fn append(&mut self, head: usize, x: usize)
         requires head_in_bounds { head < L }
         requires x_in_bounds { x < L }
+        ensures { self.new.came ≡ self.old.came }
     {
         let last = self.before(head);
         self.join(last, x);
@@ -114,10 +119,11 @@ impl<const L: usize> Queue<L> {
     // Takes the node x out of the ring in which it is; where it is in none, one more has come.
     fn leave(&mut self, x: usize)
         requires in_bounds { x < L }
+        ensures { self.new.came ≤ self.old.came + 1 }
     {
         let last = self.before(x);
         if last == 0 {
-            // only ends the loop early, so that no contract counts
+            // never at the greatest number: at most as many come as the clauses count
             self.came = self.came.wrapping_add(1);
             return;
         }
@@ -128,6 +134,7 @@ impl<const L: usize> Queue<L> {
     // Arrival a, whose label has fallen to this, waits in its ring and in no other.
     pub(crate) fn wait(&mut self, a: usize, label: u32)
         requires has_node { ARRIVALS + a < L }
+        ensures { self.new.came ≤ self.old.came + 1 }
     {
         let x = ARRIVALS + a;
         self.leave(x);
@@ -137,6 +144,7 @@ impl<const L: usize> Queue<L> {
     // Takes the first arrival out of a ring, if one waits there.
     pub(crate) fn take(&mut self, head: usize) -> Option<usize>
         requires { head < ARRIVALS }
+        ensures { self.new.came ≡ self.old.came }
     {
         let x = self.after(head);
         let a = x.checked_sub(ARRIVALS)?;

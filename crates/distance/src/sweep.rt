@@ -4,7 +4,7 @@ ghost use Rattle.std.specs.Prelude.{◌≡◌, true, ◌≤◌, ◌<◌, length,
 ghost use Rattle.rules.specs.Net.{no_distance};
 ghost use Rattle.distance.specs.Labels.{best, Sizes, Above, Settled, Relaxed, Swept, Still};
 
-use crate::label::{best, lower};
+use crate::label::{best, end_offer, lower, offer};
 use rules::net::NetTable;
 
 // Lowers the label of arrival a to the best that is offered; whether it falls.
@@ -29,13 +29,18 @@ fn sweep(net: &NetTable, labels: &mut [u32]) -> bool
     fell
 }
 
-// The label of arrival a is no more than what is offered.
+// The label of arrival a is no more than each of what is offered.
+#[tactic(auto, unfolding(crate::specs::Labels::best), using(std::proofs::lemmas::List::get_or_default))]
 fn is_still(net: &NetTable, labels: &[u32], a: usize) -> bool
     requires one_each { length labels.now ≡ length net.now.rows.now }
     requires in_bounds { a < length labels.now }
     ensures { result ≡ true → get_or labels.now a no_distance ≤ best net.now labels.now a }
 {
-    labels[a] <= best(net, labels, a)
+    let row = &net.rows[a];
+    let label = labels[a];
+    label <= end_offer(row, net.room)
+        && label <= offer(&row.first, labels)
+        && label <= offer(&row.second, labels)
 }
 
 // Whether no label is more than what is offered: a sweep would find nothing, and takes longer.

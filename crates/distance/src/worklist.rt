@@ -59,7 +59,8 @@ impl<const A: usize, const L: usize> Worklist<A, L> {
     fn begin_at(&mut self, net: &NetTable, labels: &mut [u32], a: usize)
         requires sizes { Sizes A net.now labels.old }
         requires in_bounds { a < length labels.old }
-        ensures { Kept net.now labels.old labels.new }
+        ensures kept { Kept net.now labels.old labels.new }
+        ensures came { self.new.queue.came ≤ self.old.queue.came + 1 }
     {
         if net.rows[a].ends && lower(labels, a, net.room) {
             self.queue.wait(a, net.room);
@@ -69,7 +70,8 @@ impl<const A: usize, const L: usize> Worklist<A, L> {
     // Notes all steps, and gives the arrivals at which a walk may end their labels.
     fn begin(&mut self, net: &NetTable, labels: &mut [u32])
         requires sizes { Sizes A net.now labels.old }
-        ensures { Kept net.now labels.old labels.new }
+        ensures kept { Kept net.now labels.old labels.new }
+        ensures came { self.new.queue.came ≤ self.old.queue.came + length labels.old }
     {
         for a in 0..labels.len() {
             note_place(&mut self.leading, 2 * a, net.rows[a].first.next);
@@ -82,7 +84,8 @@ impl<const A: usize, const L: usize> Worklist<A, L> {
     fn pass_to(&mut self, net: &NetTable, labels: &mut [u32], b: usize, place: u16)
         requires sizes { Sizes A net.now labels.old }
         requires in_bounds { b < length labels.old }
-        ensures { Kept net.now labels.old labels.new }
+        ensures kept { Kept net.now labels.old labels.new }
+        ensures came { self.new.queue.came ≤ self.old.queue.came + 1 }
     {
         let a = place as usize / 2;
         if labels.len() <= a {
@@ -102,7 +105,8 @@ impl<const A: usize, const L: usize> Worklist<A, L> {
     fn pass_back(&mut self, net: &NetTable, labels: &mut [u32], b: usize)
         requires sizes { Sizes A net.now labels.old }
         requires in_bounds { b < length labels.old }
-        ensures { Kept net.now labels.old labels.new }
+        ensures kept { Kept net.now labels.old labels.new }
+        ensures came { self.new.queue.came ≤ self.old.queue.came + 2 }
     {
         let Leading { last, before } = self.leading[b];
         self.pass_to(net, labels, b, last);
@@ -113,7 +117,8 @@ impl<const A: usize, const L: usize> Worklist<A, L> {
     fn serve(&mut self, net: &NetTable, labels: &mut [u32], head: usize)
         requires sizes { Sizes A net.now labels.old }
         requires is_head { head < ARRIVALS }
-        ensures { Kept net.now labels.old labels.new }
+        ensures kept { Kept net.now labels.old labels.new }
+        ensures came { self.new.queue.came ≤ self.old.queue.came + 2 }
     {
         let Some(b) = self.queue.take(head) else {
             return;

@@ -23,6 +23,7 @@ impl Passed {
     }
 
     // Puts q at the end, unless it is among them or there is no place for it.
+    #[inline(always)]
     pub(crate) fn add(&mut self, q: u32) -> bool
         ensures new { result ≡ true → Contains (points_of self.old) q → ⊥ }
         ensures added { result ≡ true → points_of self.new ≡ points_of self.old ++ (q ∷ []) }

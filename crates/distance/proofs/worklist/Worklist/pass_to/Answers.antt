@@ -6,8 +6,8 @@ use Rattle.distance.proofs.Offers.{step_read, known_offered}
 use Rattle.distance.proofs.Lowering.{lowered_kept}
 use Rattle.distance.proofs.worklist.Worklist.pass_to.Goals as goal
 
-pub returns-then-lower : goal.returns-then-lower
-returns-then-lower g c =
+pub returns-then-lower-clause-kept : goal.returns-then-lower-clause-kept
+returns-then-lower-clause-kept g c =
     lowered_kept (omega arith)
     (known_offered _ _ _ (step_read _ _ _ _ c.step_at-step.ensures (omega arith)) c.requires.in_bounds (search rules) c.saturating_add-v.ensures)
     c.lower.ensures
